@@ -1,0 +1,7 @@
+// Reads turn files: a stack of locks, each worker's script, and who ran at each step.
+pub mod fault;
+pub mod number;
+pub mod plan;
+pub mod plan_reader;
+pub mod reader;
+mod record;

@@ -1,0 +1,39 @@
+// Numbers: groups of seven bits, lowest first, the top bit set in all but the last.
+ghost use mathlib.Core.Path.{_≡_};
+ghost use Rattle.turn_file.specs.Number.{number-at};
+ghost use Rattle.turn_file.specs.Spelling.{One-spelling, Spelled};
+use crate::fault::NumberFault;
+
+// The number whose first byte is at `at`, with the place after it.
+pub fn read_number(file: &[u8], at: usize) -> Result<(u32, usize), NumberFault>
+    ensures reads { λ r. ⌜ r ≡ number-at (now (file .entry)) at ⌝ }
+    ensures spelled { λ r. ⌜ Spelled (now (file .entry)) at r ⌝ }
+{
+    let mut value: u32 = 0;
+    let mut weight: u32 = 1;
+    let mut next = at;
+    for left in (0..5u8).rev() {
+        if next >= file.len() {
+            return Err(NumberFault::Ends { place: at });
+        }
+        let byte = file[next];
+        if byte == 0 && left < 4 {
+            return Err(NumberFault::Padded { place: at });
+        }
+        if byte >= 16 && left == 0 {
+            return Err(NumberFault::TooLarge { place: at });
+        }
+        if byte < 128 {
+            return Ok((value + u32::from(byte) * weight, next + 1));
+        }
+        value += u32::from(byte - 128) * weight;
+        weight *= 128;
+        next += 1;
+    }
+    Err(NumberFault::TooLarge { place: at })
+}
+
+// Every value up to 4,294,967,295 has exactly one accepted spelling, and what is accepted at a place is that spelling.
+pub fn one_spelling_for_each_number()
+    ensures { λ _. ⌜ One-spelling ⌝ }
+{}

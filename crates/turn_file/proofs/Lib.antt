@@ -1,7 +1,10 @@
+pub mod Complete
 pub mod Entries
 pub mod Fields
 pub mod Groups
+pub mod Orders
 pub mod Plans
+pub mod Sound
 pub mod Spelled
 pub mod Steps
 pub mod Within

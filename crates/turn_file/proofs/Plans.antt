@@ -72,6 +72,9 @@ opened-at : (too-long : Bool) (f : FileFault) (a c : Cursor) → _≡_ {A = Resu
 opened-at true f a c e = absurd (let z : _≡_ {A = ℕ} 0 1 = cc in omega arith)
 opened-at false f a c e = cc
 
+pub not-opened : (file : List ℕ) (f : FileFault) → Err f ≡ open-file file → plan-of file ≡ Err f
+not-opened file f e = ap (λ r. on-open r (λ d. plan-from (suc (length file)) d blank-plan)) (sym e)
+
 pub begins : (file : List ℕ) (c : Cursor) (p : PlanNumbers) → Ok c ≡ open-file file → p ≡ blank-plan → Completes file c p (plan-of file)
 begins file c p e b =
     let start = opened-at (ltb longest-file (length file)) TooLong _ c e in

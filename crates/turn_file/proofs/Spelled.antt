@@ -5,7 +5,7 @@ use mathlib.Core.List.{List, [], _∷_, _++_}
 use mathlib.Core.Logic.{_⊎_, inl, inr}
 use native.Mathlib.Omega.{arith}
 use lib.ListN.{length, drop, getD}
-use Rattle.std.proofs.shelf.Lists.{append-assoc, length-append, length-drop, drop-drop, drop-at, getD-drop}
+use Rattle.std.proofs.shelf.Lists.{append-assoc, append-cancel-left, length-append, length-drop, drop-drop, drop-at, getD-drop}
 use Rattle.std.proofs.shelf.Tests.{cases-lt}
 use Rattle.std.proofs.shelf.Ways.{tells}
 use Rattle.std.specs.declared.result.Result.{Result}
@@ -199,6 +199,16 @@ stands-from xs rest file at to is after =
     ∙ ap (drop (length xs)) is
     ∙ drop-at xs rest (length xs) refl in
     record { begins = is ∙ ap (λ zs. xs ++ zs) (sym past); ends = after }
+
+-- what stands together stands side by side
+pub stands-split : (xs ys file : List ℕ) (a c : ℕ) → Stands (xs ++ ys) file a c →
+    Stands xs file a (a + length xs) × Stands ys file (a + length xs) c
+stands-split xs ys file a c s =
+    let first = stands-from xs (ys ++ drop c file) file a (a + length xs)
+        (s .begins ∙ append-assoc xs ys (drop c file)) refl in
+    let behind = append-cancel-left xs (drop (a + length xs) file) (ys ++ drop c file)
+        (sym (first .begins) ∙ s .begins ∙ append-assoc xs ys (drop c file)) in
+    (first, record { begins = behind; ends = omega (arith, s .ends, length-append xs ys) })
 
 -- what is accepted is the spelling of its value
 pub number-spelled : (file : List ℕ) (at : ℕ) (n : ℕ × ℕ) → Bytes file → number-at file at ≡ Ok n →

@@ -24,7 +24,7 @@ pub in-order-ok : (r : Result Stepped RecordFault) (s : Stepped) → in-order r 
 in-order-ok (Ok t) s e = let q : t ≡ s = cc in ap Ok q
 in-order-ok (Err f) s e = absurd (let z : _≡_ {A = ℕ} 0 1 = cc in omega arith)
 
-no-step : (t : Bool) (f : FileFault) (s : Stepped) → cond t (Err f) (Ok None) ≡ Ok (Some s) → ⊥
+pub no-step : (t : Bool) (f : FileFault) (s : Stepped) → cond t (Err f) (Ok None) ≡ Ok (Some s) → ⊥
 no-step true f s e = let z : _≡_ {A = ℕ} 0 1 = cc in omega arith
 no-step false f s e = let z : _≡_ {A = ℕ} 0 1 = cc in omega arith
 

@@ -17,41 +17,10 @@ use Rattle.turn_file.specs.declared.fault.RecordFault.the-variants as fault
 use Rattle.turn_file.specs.declared.fault.RecordKind.the-variants as kind
 use Rattle.turn_file.specs.declared.plan.Level.{Level}
 use Rattle.turn_file.specs.declared.plan.Script.{Script}
-use Rattle.turn_file.specs.Number.{group-before, judged, groups, number-at}
+use Rattle.turn_file.specs.Number.{number-at}
 use Rattle.turn_file.specs.Record.{bind, judge, levels-at, bad-levels, algorithm-number, algorithm-at, bad-fan-out, fan-out-at, bad-limit, limit-at, level-at, bad-script-number, script-number-at, script-at, bad-entry, entry-at, entries-end, schedule-at}
 use Rattle.turn_file.proofs.Fields.{bind-ok, judge-ok, field-ok, algorithm-ok}
-
-abbrev Read : Type 0
-Read = Result (ℕ × ℕ) NumberFault
-
--- the place after it is past `next`, and at most `more` bytes on
-abbrev Ends-by : ℕ → ℕ → Read → Type 0
-Ends-by next more (Ok n) = (next < n .1) × (n .1 ≤ next + more)
-Ends-by next more (Err f) = Unit {0}
-
-ends-later : (next more b : ℕ) (r : Read) → Ends-by (next + 1) more r → Ends-by next (suc more) (group-before b r)
-ends-later next more b (Ok n) h = (omega arith, omega arith)
-ends-later next more b (Err f) h = tt
-
-whichever : (P : Read → Type 0) (s t u : Bool) {a b c d : Read} → P a → P b → P c → P d → P (cond s a (cond t b (cond u c d)))
-whichever P true t u h k l m = h
-whichever P false true u h k l m = k
-whichever P false false true h k l m = l
-whichever P false false false h k l m = m
-
-judged-ends : (at left next b more : ℕ) (r : Read) → Ends-by next (suc more) (group-before b r) → Ends-by next (suc more) (judged at left next b r)
-judged-ends at left next b more r h =
-    whichever (Ends-by next (suc more)) (eqb b 0 && ltb left 4) (leb 16 b && eqb left 0) (ltb b 128) tt tt (omega arith, omega arith) h
-
-groups-end : (at left next : ℕ) (bytes : List ℕ) → Ends-by next (length bytes) (groups at left next bytes)
-groups-end at zero next bytes = tt
-groups-end at (suc left) next [] = tt
-groups-end at (suc left) next (b ∷ bytes) = judged-ends at left next b (length bytes) (groups at left (next + 1) bytes) (ends-later next (length bytes) b (groups at left (next + 1) bytes) (groups-end at left (next + 1) bytes))
-
-pub number-within : (file : List ℕ) (at : ℕ) (n : ℕ × ℕ) → number-at file at ≡ Ok n → (at < n .1) × (n .1 ≤ length file)
-number-within file at n e =
-    let h = subst (Ends-by at (length (drop at file))) e (groups-end at 5 at (drop at file)) in
-    (h .0, omega (arith, h .0, h .1, length-drop at file))
+use Rattle.turn_file.proofs.Spelled.{number-within}
 
 -- the top level has no limit
 pub limit-ok : (rank : ℕ) (file : List ℕ) (at : ℕ) (n : ℕ × ℕ) → limit-at rank file at ≡ Ok n → ((rank ≡ 0) × (n ≡ (0, at))) ⊎ ((rank ≡ 0 → ⊥) × (number-at file at ≡ Ok n) × (bad-limit (n .0) ≡ false))

@@ -1,5 +1,6 @@
 // Reads a whole turn file into a plan.
 ghost use mathlib.Core.Path.{_≡_};
+ghost use Rattle.turn_file.specs.Order.{Read-whole};
 ghost use Rattle.turn_file.specs.Plan.{plan-numbers, with-item, plan-of, judgement, filled};
 ghost use Rattle.turn_file.specs.Reading.{seen-record};
 use crate::fault::FileFault;
@@ -33,6 +34,7 @@ impl<'a> Plan<'a> {
 pub fn read_plan<'a>(file: &'a [u8], plan: &mut Plan<'a>) -> Result<(), FileFault>
     ensures answer { λ r. ⌜ r ≡ judgement (plan-of (now (file .entry))) ⌝ }
     ensures plan { λ _. ⌜ plan-numbers (now (plan .exit)) ≡ filled (plan-numbers (now (plan .entry))) (plan-of (now (file .entry))) ⌝ }
+    ensures law { λ r. ⌜ Read-whole (now (file .entry)) r (plan-numbers (now (plan .exit))) ⌝ }
 {
     let mut reader = Reader::new(file)?;
     let mut read = Plan::blank();

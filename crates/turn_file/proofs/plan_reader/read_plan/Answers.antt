@@ -8,7 +8,8 @@ use Rattle.std.specs.declared.option.Option.the-variants.{Some, None}
 use Rattle.std.specs.declared.result.Result.the-variants.{Ok, Err}
 use Rattle.turn_file.specs.Plan.{plan-numbers, plan-of, with-item, judgement, filled}
 use Rattle.turn_file.specs.Reading.{Handed, Stepped, Cursor, cursor-of, next-from, moved-on, seen-record, seen-answer}
-use Rattle.turn_file.proofs.Plans.{Completes, handed-some, handed-none, handed-fault, begins, completed, refused, takes, goes-on}
+use Rattle.turn_file.proofs.Orders.{read-whole}
+use Rattle.turn_file.proofs.Plans.{Completes, handed-some, handed-none, handed-fault, not-opened, begins, completed, refused, takes, goes-on}
 use Rattle.turn_file.proofs.plan_reader.read_plan.Needs as need
 
 pub loop-record-holds : need.loop-record-holds
@@ -20,9 +21,24 @@ returns-in-Break-record c =
     let f = c .in-Break-record .field-0 .0 in
     let faulty = handed-fault (next-from (cursor-of (c .loop-record .reader))) f (c .in-Break-record .ensures tt .answer) in
     let whole = refused (c .args .file .now) _ _ (plan-of (c .args .file .now)) (c .loop-record .inv) f faulty in
+    let answered = p .1 ∙ ap Err (p .2) ∙ sym (ap judgement whole) in
+    let kept = sym (ap (filled (plan-numbers (c .args .plan .now))) whole) in
     record {
-      answer = p .1 ∙ ap Err (p .2) ∙ sym (ap judgement whole);
-      plan = sym (ap (filled (plan-numbers (c .args .plan .now))) whole);
+      answer = answered;
+      plan = kept;
+      law = read-whole (c .args .file .now) (plan-numbers (c .args .plan .now)) _ _ (λ i. c .typed .file i .fits) answered kept;
+    }
+
+pub returns-in-Break-reader : need.returns-in-Break-reader
+returns-in-Break-reader c =
+    let p = err-from-errBy (c .from-residual .result) (c .from-residual .ensures .1) in
+    let whole = not-opened (c .args .file .now) (c .in-Break-reader .field-0 .0) (c .in-Break-reader .ensures tt) in
+    let answered = p .1 ∙ ap Err (p .2) ∙ sym (ap judgement whole) in
+    let kept = sym (ap (filled (plan-numbers (c .args .plan .now))) whole) in
+    record {
+      answer = answered;
+      plan = kept;
+      law = read-whole (c .args .file .now) (plan-numbers (c .args .plan .now)) _ _ (λ i. c .typed .file i .fits) answered kept;
     }
 
 -- the step that the reader made
@@ -52,7 +68,10 @@ pub returns : need.returns
 returns c =
     let ended = handed-none (next-from (cursor-of (c .loop-record .reader))) (ap (λ o. seen-answer (Ok o)) (sym (c .in-rest .is)) ∙ c .in-Continue-record .ensures tt .answer) in
     let whole = completed (c .args .file .now) _ _ (plan-of (c .args .file .now)) (c .loop-record .inv) ended in
+    let answered = sym (ap judgement whole) in
+    let entered = sym (ap (filled (plan-numbers (c .args .plan .now))) whole) in
     record {
-      answer = sym (ap judgement whole);
-      plan = sym (ap (filled (plan-numbers (c .args .plan .now))) whole);
+      answer = answered;
+      plan = entered;
+      law = read-whole (c .args .file .now) (plan-numbers (c .args .plan .now)) _ _ (λ i. c .typed .file i .fits) answered entered;
     }

@@ -21,8 +21,8 @@ use Rattle.turn_file.specs.declared.plan.Algorithm.{Algorithm}
 use Rattle.turn_file.specs.declared.plan.Algorithm.the-variants.{Ticket, Mcs}
 use Rattle.turn_file.specs.declared.plan.Level.{Level}
 use Rattle.turn_file.specs.declared.plan.Script.{Script}
-use Rattle.turn_file.specs.declared.reader.Stage.{Stage}
-use Rattle.turn_file.specs.declared.reader.Stage.the-variants as stage
+use Rattle.turn_file.specs.declared.step.Stage.{Stage}
+use Rattle.turn_file.specs.declared.step.Stage.the-variants as stage
 use Rattle.turn_file.specs.Number.{number-at}
 use Rattle.turn_file.specs.Order.{record-spelling, Level-fits, Script-fits, Comes}
 use Rattle.turn_file.specs.Reading.{Item, levels, level, script, schedule, Stepped, between, in-order, step, after-level, after-script, next-step}
@@ -105,8 +105,7 @@ module _ (file : List ℕ) where
       let split = stands-split (spell (length es)) (joined spell es) file at to s in
       let first : ℕ = at + length (spell (length es)) in
       let found = spelled-number file at (length es) first counted (split .0) in
-      let ends = entries-complete workers first to es few all (split .1) in
-      (
+      let ends = entries-complete workers first to es few all (split .1) in (
         first,
         ap (λ r. judge (with-kind kind.Schedule r) (λ n. bind (entries-end (n .0) workers file (n .1)) (λ end. Ok (n .1, end)))) found ∙ bind-is _ ends refl,
         stands-cut es file first to (subst (λ xs. Stands xs file first to) (entries-short workers es few all) (split .1)),

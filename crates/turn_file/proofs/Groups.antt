@@ -25,8 +25,8 @@ behind value weight (Err e) = Err e
 pub behind-more : (value weight b : ℕ) (r : Read) → behind value weight (group-before b r) ≡ behind (value + (b - 128) * weight) (weight * 128) r
 behind-more value weight b (Ok n) = ap (λ v. Ok (v, n .1)) (same (b - 128) (n .0))
   where
-  same : (x y : ℕ) → value + (x + 128 * y) * weight ≡ value + x * weight + y * (weight * 128)
-  same x y = grind (arith, mul-add, add-mul, mul-assoc, mul-comm)
+    same : (x y : ℕ) → value + (x + 128 * y) * weight ≡ value + x * weight + y * (weight * 128)
+    same x y = grind (arith, mul-add, add-mul, mul-assoc, mul-comm)
 behind-more value weight b (Err e) = refl
 
 -- how much the next group weighs where `left` groups may still come

@@ -17,8 +17,8 @@ use Rattle.std.specs.declared.result.Result.the-variants.{Ok, Err}
 use Rattle.turn_file.specs.declared.fault.FileFault.{FileFault}
 use Rattle.turn_file.specs.declared.fault.FileFault.the-variants.{TooLong}
 use Rattle.turn_file.specs.declared.fault.RecordFault.{RecordFault}
-use Rattle.turn_file.specs.declared.reader.Stage.{Stage}
-use Rattle.turn_file.specs.declared.reader.Stage.the-variants as stage
+use Rattle.turn_file.specs.declared.step.Stage.{Stage}
+use Rattle.turn_file.specs.declared.step.Stage.the-variants as stage
 use Rattle.turn_file.specs.Fault.{longest-file}
 use Rattle.turn_file.specs.Order.{record-spelling, spelling, Comes, In-order, Whole, First-fault, Read-whole}
 use Rattle.turn_file.specs.Plan.{PlanNumbers, with-item, blank-plan, plan-from, plan-of, on-open, judgement, filled}
@@ -43,8 +43,7 @@ module _ (file : List ℕ) (each : Bytes file) where
   ran-sound at from [] to after few (here, same) = (same, subst (Stands [] file at) here (stands-none file at))
   ran-sound at from (item ∷ items) to after few (s, found, is, more) =
       let k = next-sound file at from s each few found in
-      let m = ran-sound (s .next) (s .stage) items to after (k .few) more in
-      (
+      let m = ran-sound (s .next) (s .stage) items to after (k .few) more in (
         (s .stage, subst (λ i. Comes from i (s .stage)) is (k .comes), m .0),
         stands-both (subst (λ i. Stands (record-spelling i) file at (s .next)) is (k .stands)) (m .1),
       )
@@ -135,15 +134,15 @@ plan-ran : (most : ℕ) (c : Cursor) (p q : PlanNumbers) → c .place ≤ length
 plan-ran zero c p q within enough e = absurd (omega arith)
 plan-ran (suc most) c p q within enough e =
     elim (step-is (next-from c)) [
-      inl k ↦
-        let t = next-takes (c .file) (c .place) (c .stage) (k .0) (k .1) in
-        let m = plan-ran most (moved-on c (Ok (Some (k .0)))) (with-item p (k .0 .handed .item)) q (t .1) (omega arith) (sym (plan-goes-on c p most (k .0) (k .1)) ∙ e) in
-        (k .0 .handed .item ∷ m .0, (k .0, k .1, refl, m .1), m .2)
-    | inr (inl k) ↦
-        let n = none-left (c .file) (c .place) (c .stage) k in
-        let same : p ≡ q = let s = sym (plan-ends c p (suc most) (omega arith) k) ∙ e in cc in
-        ([], (let l = n .1 in omega arith, n .0), sym same)
-    | inr (inr k) ↦ absurd (let s = sym (plan-refused c p (suc most) (k .0) (omega arith) (k .1)) ∙ e in let z : _≡_ {A = ℕ} 0 1 = cc in omega arith)
+      | inl k ↦
+          let t = next-takes (c .file) (c .place) (c .stage) (k .0) (k .1) in
+          let m = plan-ran most (moved-on c (Ok (Some (k .0)))) (with-item p (k .0 .handed .item)) q (t .1) (omega arith) (sym (plan-goes-on c p most (k .0) (k .1)) ∙ e) in
+          (k .0 .handed .item ∷ m .0, (k .0, k .1, refl, m .1), m .2)
+      | inr (inl k) ↦
+          let n = none-left (c .file) (c .place) (c .stage) k in
+          let same : p ≡ q = let s = sym (plan-ends c p (suc most) (omega arith) k) ∙ e in cc in
+          ([], (let l = n .1 in omega arith, n .0), sym same)
+      | inr (inr k) ↦ absurd (let s = sym (plan-refused c p (suc most) (k .0) (omega arith) (k .1)) ∙ e in let z : _≡_ {A = ℕ} 0 1 = cc in omega arith)
     ]
 
 -- a plan that was refused: the records before the fault were handed out
@@ -153,14 +152,14 @@ plan-stopped : (most : ℕ) (c : Cursor) (p : PlanNumbers) (f : FileFault) → c
 plan-stopped zero c p f within enough e = absurd (omega arith)
 plan-stopped (suc most) c p f within enough e =
     elim (step-is (next-from c)) [
-      inl k ↦
-        let t = next-takes (c .file) (c .place) (c .stage) (k .0) (k .1) in
-        let m = plan-stopped most (moved-on c (Ok (Some (k .0)))) (with-item p (k .0 .handed .item)) f (t .1) (omega arith) (sym (plan-goes-on c p most (k .0) (k .1)) ∙ e) in
-        (k .0 .handed .item ∷ m .0, m .1, m .2, (k .0, k .1, refl, m .3), m .4)
-    | inr (inl k) ↦ absurd (let s = sym (plan-ends c p (suc most) (omega arith) k) ∙ e in let z : _≡_ {A = ℕ} 0 1 = cc in omega arith)
-    | inr (inr k) ↦
-        let same : k .0 ≡ f = let s = sym (plan-refused c p (suc most) (k .0) (omega arith) (k .1)) ∙ e in cc in
-        ([], c .place, c .stage, (refl, refl), k .1 ∙ ap Err same)
+      | inl k ↦
+          let t = next-takes (c .file) (c .place) (c .stage) (k .0) (k .1) in
+          let m = plan-stopped most (moved-on c (Ok (Some (k .0)))) (with-item p (k .0 .handed .item)) f (t .1) (omega arith) (sym (plan-goes-on c p most (k .0) (k .1)) ∙ e) in
+          (k .0 .handed .item ∷ m .0, m .1, m .2, (k .0, k .1, refl, m .3), m .4)
+      | inr (inl k) ↦ absurd (let s = sym (plan-ends c p (suc most) (omega arith) k) ∙ e in let z : _≡_ {A = ℕ} 0 1 = cc in omega arith)
+      | inr (inr k) ↦
+          let same : k .0 ≡ f = let s = sym (plan-refused c p (suc most) (k .0) (omega arith) (k .1)) ∙ e in cc in
+          ([], c .place, c .stage, (refl, refl), k .1 ∙ ap Err same)
     ]
 
 abbrev start : List ℕ → Cursor
@@ -244,13 +243,13 @@ read-whole file was p r each answer plan = record {
       let k = judged-whole (plan-of file) (sym answer ∙ ok) in
       let said = plan ∙ ap (filled was) (k .1) in
       elim (cases-lt longest-file (length file)) [
-        inl long ↦ absurd (let l = too-long file long in let s = k .1 in let z : _≡_ {A = ℕ} 0 1 = cc in omega arith)
-      | inr short ↦ (short, subst (Whole file) (sym said) (read-accepted file each short (k .0) (k .1)))
+        | inl long ↦ absurd (let l = too-long file long in let s = k .1 in let z : _≡_ {A = ℕ} 0 1 = cc in omega arith)
+        | inr short ↦ (short, subst (Whole file) (sym said) (read-accepted file each short (k .0) (k .1)))
       ];
   refused = λ fault err.
       let k = judged-fault (plan-of file) fault (sym answer ∙ err) in
       elim (cases-lt longest-file (length file)) [
-        inl long ↦ inl (long, let l = too-long file long in cc)
-      | inr short ↦ inr (short, read-refused file each short fault k)
+        | inl long ↦ inl (long, let l = too-long file long in cc)
+        | inr short ↦ inr (short, read-refused file each short fault k)
       ];
 }

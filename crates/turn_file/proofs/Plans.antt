@@ -78,8 +78,7 @@ not-opened file f e = ap (λ r. on-open r (λ d. plan-from (suc (length file)) d
 pub begins : (file : List ℕ) (c : Cursor) (p : PlanNumbers) → Ok c ≡ open-file file → p ≡ blank-plan → Completes file c p (plan-of file)
 begins file c p e b =
     let start = opened-at (ltb longest-file (length file)) TooLong _ c e in
-    let at : 0 ≡ c .place = ap (λ (d : Cursor). d .place) start in
-    (
+    let at : 0 ≡ c .place = ap (λ (d : Cursor). d .place) start in (
       sym (ap (λ (d : Cursor). d .file) start),
       (suc (length file), omega arith, ap (plan-from (suc (length file)) c) b ∙ ap (λ r. on-open r (λ d. plan-from (suc (length file)) d blank-plan)) e),
     )

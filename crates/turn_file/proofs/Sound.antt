@@ -16,8 +16,8 @@ use Rattle.std.specs.declared.option.Option.the-variants.{Some}
 use Rattle.std.specs.declared.result.Result.the-variants.{Ok}
 use Rattle.turn_file.specs.declared.plan.Level.{Level}
 use Rattle.turn_file.specs.declared.plan.Script.{Script}
-use Rattle.turn_file.specs.declared.reader.Stage.{Stage}
-use Rattle.turn_file.specs.declared.reader.Stage.the-variants as stage
+use Rattle.turn_file.specs.declared.step.Stage.{Stage}
+use Rattle.turn_file.specs.declared.step.Stage.the-variants as stage
 use Rattle.turn_file.specs.Number.{number-at}
 use Rattle.turn_file.specs.Order.{record-spelling, Level-fits, Script-fits, Comes}
 use Rattle.turn_file.specs.Reading.{levels, level, script, schedule, Stepped, between, after-level, after-script, levels-step, level-step, script-step, schedule-step, next-step}
@@ -34,23 +34,22 @@ module _ (file : List ℕ) (each : Bytes file) where
       × (((rank ≡ 0) × (n .0 ≡ 0)) ⊎ ((rank ≡ 0 → ⊥) × (1 ≤ n .0) × (n .0 ≤ 65535)))
   limit-sound rank at n e =
       elim (limit-ok rank file at n e) [
-        inl t ↦
-          let top : eqb rank 0 ≡ true = grind (arith, tells) in
-          let zero-limit = ap (λ (m : ℕ × ℕ). m .0) (t .1) in
-          let here = ap (λ (m : ℕ × ℕ). m .1) (t .1) in
-          (simp (top, here) (stands-none file at), inl (t .0, zero-limit))
-      | inr t ↦
-          let below : eqb rank 0 ≡ false = grind (arith, tells) in
-          let fits = t .2 in
-          (simp below (number-spelled file at n each (t .1) .1), inr (t .0, grind (arith, tells), grind (arith, tells)))
+        | inl t ↦
+            let top : eqb rank 0 ≡ true = grind (arith, tells) in
+            let zero-limit = ap (λ (m : ℕ × ℕ). m .0) (t .1) in
+            let here = ap (λ (m : ℕ × ℕ). m .1) (t .1) in
+            (simp (top, here) (stands-none file at), inl (t .0, zero-limit))
+        | inr t ↦
+            let below : eqb rank 0 ≡ false = grind (arith, tells) in
+            let fits = t .2 in
+            (simp below (number-spelled file at n each (t .1) .1), inr (t .0, grind (arith, tells), grind (arith, tells)))
       ]
 
   level-sound : (rank parties at to : ℕ) (l : Level) → LevelFields rank parties file at l to →
       Level-fits rank parties l × Stands (record-spelling (level rank l)) file at to
   level-sound rank parties at to l f =
       let fan = fan-out-fits parties (l .«fan_out») (f .fits) in
-      let limit = limit-sound rank (f .at-limit) _ (f .limit) in
-      (
+      let limit = limit-sound rank (f .at-limit) _ (f .limit) in (
         record { some = fan .0; few = fan .1; limit = limit .1 },
         stands-both (number-spelled file at _ each (f .algorithm) .1) (stands-both (number-spelled file (f .at-fan-out) _ each (f .fan-out) .1) (limit .0)),
       )
@@ -60,11 +59,10 @@ module _ (file : List ℕ) (each : Bytes file) where
 
   script-sound : (worker at to : ℕ) (s : Script) → ScriptFields file at s to →
       Script-fits s × Stands (record-spelling (script worker s)) file at to
-  script-sound worker at to s f =
-      (
-        record { turns = script-fits _ (f .turns .1); rest = script-fits _ (f .rest .1); hold = script-fits _ (f .hold .1) },
-        stands-both (number-spelled file at _ each (f .turns .0) .1) (stands-both (number-spelled file (f .at-rest) _ each (f .rest .0) .1) (number-spelled file (f .at-hold) _ each (f .hold .0) .1)),
-      )
+  script-sound worker at to s f = (
+    record { turns = script-fits _ (f .turns .1); rest = script-fits _ (f .rest .1); hold = script-fits _ (f .hold .1) },
+    stands-both (number-spelled file at _ each (f .turns .0) .1) (stands-both (number-spelled file (f .at-rest) _ each (f .rest .0) .1) (number-spelled file (f .at-hold) _ each (f .hold .0) .1)),
+  )
 
   entries-sound : (count workers at to : ℕ) → entries-end count workers file at ≡ Ok to →
       (es : List ℕ) × (length es ≡ count) × Every (λ e. e < workers) es × Stands (joined spell es) file at to
@@ -74,8 +72,7 @@ module _ (file : List ℕ) (each : Bytes file) where
       let b = bind-ok (entry-at workers file at) _ to e in
       let k = entry-ok workers file at (b .0) (b .1) in
       let fits = k .1 in
-      let more = entries-sound count workers (b .0 .1) to (b .2) in
-      (
+      let more = entries-sound count workers (b .0 .1) to (b .2) in (
         b .0 .0 ∷ more .0,
         ap suc (more .1),
         (grind (arith, tells), more .2),

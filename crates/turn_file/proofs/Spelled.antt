@@ -205,9 +205,9 @@ pub stands-split : (xs ys file : List ℕ) (a c : ℕ) → Stands (xs ++ ys) fil
     Stands xs file a (a + length xs) × Stands ys file (a + length xs) c
 stands-split xs ys file a c s =
     let first = stands-from xs (ys ++ drop c file) file a (a + length xs)
-        (s .begins ∙ append-assoc xs ys (drop c file)) refl in
+    (s .begins ∙ append-assoc xs ys (drop c file)) refl in
     let behind = append-cancel-left xs (drop (a + length xs) file) (ys ++ drop c file)
-        (sym (first .begins) ∙ s .begins ∙ append-assoc xs ys (drop c file)) in
+    (sym (first .begins) ∙ s .begins ∙ append-assoc xs ys (drop c file)) in
     (first, record { begins = behind; ends = omega (arith, s .ends, length-append xs ys) })
 
 -- what is accepted is the spelling of its value
@@ -245,22 +245,21 @@ spell-bytes (suc left) v =
       | inr more ↦ rw (spell-more left v more) (bytes-more _ _ (omega arith) (spell-bytes left (v / 128)))
     ]
 
-pub one-spelling : One-spelling
+-- so what a reader answers is told by what stands there
+pub read-spelled : (file : List ℕ) (at : ℕ) (r : Read) → Bytes file → r ≡ number-at file at → Spelled (2 ^ 32) file at r
+read-spelled file at r each is = record {
+  accepted = λ n ok. number-spelled file at n each (sym is ∙ ok);
+  accepts = λ v to small stands. is ∙ spelled-number file at v to small stands;
+  refused = λ fault err. refused-unspelled file at fault (sym is ∙ err);
+}
+
+pub one-spelling : One-spelling (2 ^ 32)
 one-spelling = record {
   bytes = λ v. spell-bytes 5 v;
-  accepted = number-spelled;
-  accepts = spelled-number;
-  refused = refused-unspelled;
+  read = λ file at each. read-spelled file at (number-at file at) each refl;
   one = λ file at v to w end small-v small-w stands-v stands-w.
       let is-v = spelled-number file at v to small-v stands-v in
       let is-w = spelled-number file at w end small-w stands-w in
       let same : _≡_ {A = ℕ × ℕ} (v, to) (w, end) = cc in
       ap (λ n. n .0) same;
-}
-
--- so what a reader answers is told by what stands there
-pub read-spelled : (file : List ℕ) (at : ℕ) (r : Read) → Bytes file → r ≡ number-at file at → Spelled file at r
-read-spelled file at r each is = record {
-  accepted = λ n ok. number-spelled file at n each (sym is ∙ ok) .1;
-  refused = λ fault err. refused-unspelled file at fault (sym is ∙ err);
 }

@@ -12,8 +12,8 @@ use Rattle.std.specs.declared.result.Result.{Result}
 use Rattle.std.specs.declared.result.Result.the-variants.{Ok, Err}
 use Rattle.turn_file.specs.declared.fault.FileFault.{FileFault}
 use Rattle.turn_file.specs.declared.fault.RecordFault.{RecordFault}
-use Rattle.turn_file.specs.declared.reader.Stage.{Stage}
-use Rattle.turn_file.specs.declared.reader.Stage.the-variants as stage
+use Rattle.turn_file.specs.declared.step.Stage.{Stage}
+use Rattle.turn_file.specs.declared.step.Stage.the-variants as stage
 use Rattle.turn_file.specs.Record.{levels-at, level-at, script-at, schedule-at}
 use Rattle.turn_file.specs.Reading.{Stepped, in-order, levels-step, level-step, script-step, schedule-step, next-step}
 use Rattle.turn_file.proofs.Fields.{bind-ok}

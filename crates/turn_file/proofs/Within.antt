@@ -26,15 +26,15 @@ use Rattle.turn_file.proofs.Spelled.{number-within}
 pub limit-ok : (rank : ℕ) (file : List ℕ) (at : ℕ) (n : ℕ × ℕ) → limit-at rank file at ≡ Ok n → ((rank ≡ 0) × (n ≡ (0, at))) ⊎ ((rank ≡ 0 → ⊥) × (number-at file at ≡ Ok n) × (bad-limit (n .0) ≡ false))
 limit-ok rank file at n e =
     elim (eqb-tells rank 0) [
-      inl t ↦ inl (t .1, let s = simp (t .0) at e in cc)
-    | inr t ↦ inr (let f = field-ok kind.Level bad-limit (fault.HandoffLimit at) file at n (simp (t .0) at e) in (t .1, f .0, f .1))
+      | inl t ↦ inl (t .1, let s = simp (t .0) at e in cc)
+      | inr t ↦ inr (let f = field-ok kind.Level bad-limit (fault.HandoffLimit at) file at n (simp (t .0) at e) in (t .1, f .0, f .1))
     ]
 
 limit-within : (rank : ℕ) (file : List ℕ) (at : ℕ) (n : ℕ × ℕ) → limit-at rank file at ≡ Ok n → at ≤ length file → (at ≤ n .1) × (n .1 ≤ length file)
 limit-within rank file at n e before =
     elim (limit-ok rank file at n e) [
-      inl t ↦ let same = ap (λ (m : ℕ × ℕ). m .1) (t .1) in (omega arith, omega arith)
-    | inr t ↦ let w = number-within file at n (t .1) in (omega arith, w .1)
+      | inl t ↦ let same = ap (λ (m : ℕ × ℕ). m .1) (t .1) in (omega arith, omega arith)
+      | inr t ↦ let w = number-within file at n (t .1) in (omega arith, w .1)
     ]
 
 -- the numbers of an accepted level

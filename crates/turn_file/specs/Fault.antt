@@ -1,11 +1,17 @@
 -- The numbers of a fault: its cause, its place, the kind of record, and the layer that it lies in.
 use Prim.Native.Nat.{ℕ}
+use mathlib.Core.List.{List, _++_}
+use lib.Chars.{codes}
+use Rattle.std.specs.Written.{decimal}
 use Rattle.turn_file.specs.declared.fault.RecordKind.{RecordKind}
 use Rattle.turn_file.specs.declared.fault.RecordKind.the-variants.{Levels, Level, Script, Schedule}
+use Rattle.turn_file.specs.declared.fault.Layer.{Layer}
+use Rattle.turn_file.specs.declared.fault.Layer.the-variants as layer
 use Rattle.turn_file.specs.declared.fault.NumberFault.{NumberFault}
 use Rattle.turn_file.specs.declared.fault.NumberFault.the-variants.{Ends, Padded, TooLarge}
 use Rattle.turn_file.specs.declared.fault.RecordFault.{RecordFault}
-use Rattle.turn_file.specs.declared.fault.RecordFault.the-variants.{Number, LevelCount, Algorithm, FanOut, HandoffLimit, ScriptNumber, Entry}
+use Rattle.turn_file.specs.declared.fault.RecordFault.the-variants.{Number, LevelCount, Algorithm, FanOut}
+use Rattle.turn_file.specs.declared.fault.RecordFault.the-variants.{HandoffLimit, ScriptNumber, Entry}
 use Rattle.turn_file.specs.declared.fault.FileFault.{FileFault}
 use Rattle.turn_file.specs.declared.fault.FileFault.the-variants.{Record, TrailingByte, TooLong, OutputTooShort}
 use Rattle.turn_file.specs.declared.fault.FaultNumbers.{FaultNumbers}
@@ -85,21 +91,33 @@ fault-kind (TrailingByte place) = 0
 fault-kind TooLong = 0
 fault-kind OutputTooShort = 0
 
--- 1 for a number, 2 for a record, 3 for the file
-abbrev pub record-layer : RecordFault → ℕ
-record-layer (Number kind fault) = 1
-record-layer (LevelCount place) = 2
-record-layer (Algorithm place) = 2
-record-layer (FanOut place) = 2
-record-layer (HandoffLimit place) = 2
-record-layer (ScriptNumber place) = 2
-record-layer (Entry place) = 2
+abbrev pub layer-number : Layer → ℕ
+layer-number layer.Number = 1
+layer-number layer.Record = 2
+layer-number layer.File = 3
 
-abbrev pub fault-layer : FileFault → ℕ
+-- the layer that a fault lies in
+abbrev pub record-layer : RecordFault → Layer
+record-layer (Number kind fault) = layer.Number
+record-layer (LevelCount place) = layer.Record
+record-layer (Algorithm place) = layer.Record
+record-layer (FanOut place) = layer.Record
+record-layer (HandoffLimit place) = layer.Record
+record-layer (ScriptNumber place) = layer.Record
+record-layer (Entry place) = layer.Record
+
+abbrev pub fault-layer : FileFault → Layer
 fault-layer (Record fault) = record-layer fault
-fault-layer (TrailingByte place) = 3
-fault-layer TooLong = 3
-fault-layer OutputTooShort = 3
+fault-layer (TrailingByte place) = layer.File
+fault-layer TooLong = layer.File
+fault-layer OutputTooShort = layer.File
 
 abbrev pub fault-numbers : FileFault → FaultNumbers
-fault-numbers f = record { cause = cause-number f; place = fault-place f; kind = fault-kind f; layer = fault-layer f }
+fault-numbers f =
+    record { cause = cause-number f; place = fault-place f; kind = fault-kind f; layer = layer-number (fault-layer f) }
+
+-- the line that a program prints for a refused file
+abbrev pub fault-line : FaultNumbers → List ℕ
+fault-line n =
+    codes "fault " ++ (decimal (n .cause) ++ (codes " " ++ (decimal (n .place) ++
+    (codes " " ++ (decimal (n .kind) ++ (codes " " ++ decimal (n .layer)))))))

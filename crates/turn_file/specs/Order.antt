@@ -15,8 +15,8 @@ use Rattle.turn_file.specs.declared.fault.FileFault.{FileFault}
 use Rattle.turn_file.specs.declared.fault.FileFault.the-variants.{TooLong}
 use Rattle.turn_file.specs.declared.plan.Level.{Level}
 use Rattle.turn_file.specs.declared.plan.Script.{Script}
-use Rattle.turn_file.specs.declared.reader.Stage.{Stage}
-use Rattle.turn_file.specs.declared.reader.Stage.the-variants as stage
+use Rattle.turn_file.specs.declared.step.Stage.{Stage}
+use Rattle.turn_file.specs.declared.step.Stage.the-variants as stage
 use Rattle.turn_file.specs.Fault.{longest-file}
 use Rattle.turn_file.specs.Plan.{PlanNumbers, with-item, blank-plan}
 use Rattle.turn_file.specs.Reading.{Item, levels, level, script, schedule, after-level, after-script, next-step}

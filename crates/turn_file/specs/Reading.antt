@@ -13,13 +13,13 @@ use Rattle.turn_file.specs.declared.fault.FileFault.{FileFault}
 use Rattle.turn_file.specs.declared.fault.FileFault.the-variants.{TrailingByte, TooLong}
 use Rattle.turn_file.specs.declared.plan.Level.{Level}
 use Rattle.turn_file.specs.declared.plan.Script.{Script}
-use Rattle.turn_file.specs.declared.reader.Part.{Part}
+use Rattle.turn_file.specs.declared.record.Part.{Part}
 use Rattle.turn_file.specs.declared.reader.Reader.{Reader}
-use Rattle.turn_file.specs.declared.reader.Record.{Record}
-use Rattle.turn_file.specs.declared.reader.Record.the-variants as rec
-use Rattle.turn_file.specs.declared.reader.Stage.{Stage}
-use Rattle.turn_file.specs.declared.reader.Stage.the-variants as stage
-use Rattle.turn_file.specs.declared.reader.Step.{Step}
+use Rattle.turn_file.specs.declared.record.Record.{Record}
+use Rattle.turn_file.specs.declared.record.Record.the-variants as rec
+use Rattle.turn_file.specs.declared.step.Stage.{Stage}
+use Rattle.turn_file.specs.declared.step.Stage.the-variants as stage
+use Rattle.turn_file.specs.declared.step.Step.{Step}
 use Rattle.turn_file.specs.Fault.{in-file, longest-file}
 use Rattle.turn_file.specs.Record.{bind, levels-at, level-at, script-at, schedule-at}
 

@@ -1,5 +1,5 @@
 -- The one spelling of a value, and the laws of what a reader finds at a place.
-use Prim.Native.Nat.{ℕ, zero, suc, _+_, _/_, _%_, _^_, _<_}
+use Prim.Native.Nat.{ℕ, zero, suc, _+_, _/_, _%_, _<_}
 use mathlib.Core.Path.{_≡_}
 use mathlib.Core.Bool.{cond}
 use mathlib.Core.List.{List, [], _∷_, _++_}
@@ -28,24 +28,19 @@ pub record Stands (xs file : List ℕ) (at to : ℕ) : Type 0 where
   pub begins : drop at file ≡ xs ++ drop to file
   pub ends : to ≡ at + length xs
 
--- what a reader answers at the place `at`: a value whose spelling stands there, or a fault where none stands
-pub record Spelled (file : List ℕ) (at : ℕ) (r : Result (ℕ × ℕ) NumberFault) : Type 0 where
-  pub accepted : (n : ℕ × ℕ) → r ≡ Ok n → Stands (spell (n .0)) file at (n .1)
-  pub refused : (fault : NumberFault) → r ≡ Err fault → (v to : ℕ) → v < 2 ^ 32 → Stands (spell v) file at to → ⊥
+-- What a reader answers at the place `at`, where values below `limit` are numbers: the value whose spelling stands there,
+-- with the place after it, wherever one stands; and a fault only where none stands.
+pub record Spelled (limit : ℕ) (file : List ℕ) (at : ℕ) (r : Result (ℕ × ℕ) NumberFault) : Type 0 where
+  pub accepted : (n : ℕ × ℕ) → r ≡ Ok n → (n .0 < limit) × Stands (spell (n .0)) file at (n .1)
+  pub accepts : (v to : ℕ) → v < limit → Stands (spell v) file at to → r ≡ Ok (v, to)
+  pub refused : (fault : NumberFault) → r ≡ Err fault → (v to : ℕ) → v < limit → Stands (spell v) file at to → ⊥
 
--- Each value up to 4,294,967,295 has one spelling that is accepted, and what is accepted at a place is that spelling.
-pub record One-spelling : Type 0 where
+-- Each value below `limit` has one spelling that is accepted, and what is accepted at a place is that spelling.
+pub record One-spelling (limit : ℕ) : Type 0 where
   -- a spelling is of bytes
   pub bytes : (v : ℕ) → Bytes (spell v)
-  -- what is accepted is the spelling of its value, and the place that is answered is the one after it
-  pub accepted : (file : List ℕ) (at : ℕ) (n : ℕ × ℕ) → Bytes file → number-at file at ≡ Ok n →
-      (n .0 < 2 ^ 32) × Stands (spell (n .0)) file at (n .1)
-  -- a spelling is accepted wherever it stands
-  pub accepts : (file : List ℕ) (at v to : ℕ) → v < 2 ^ 32 → Stands (spell v) file at to →
-      number-at file at ≡ Ok (v, to)
-  -- where a number is refused, the spelling of no value stands
-  pub refused : (file : List ℕ) (at : ℕ) (fault : NumberFault) → number-at file at ≡ Err fault →
-      (v to : ℕ) → v < 2 ^ 32 → Stands (spell v) file at to → ⊥
+  -- a reader goes by the spellings, at each place of each file
+  pub read : (file : List ℕ) (at : ℕ) → Bytes file → Spelled limit file at (number-at file at)
   -- the spellings of two values never stand at one place
-  pub one : (file : List ℕ) (at v to w end : ℕ) → v < 2 ^ 32 → w < 2 ^ 32 →
+  pub one : (file : List ℕ) (at v to w end : ℕ) → v < limit → w < limit →
       Stands (spell v) file at to → Stands (spell w) file at end → v ≡ w

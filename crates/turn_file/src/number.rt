@@ -1,5 +1,6 @@
 // Numbers: groups of seven bits, lowest first, the top bit set in all but the last.
 ghost use mathlib.Core.Path.{_≡_};
+ghost use Prim.Native.Nat.{_^_};
 ghost use Rattle.turn_file.specs.Number.{number-at};
 ghost use Rattle.turn_file.specs.Spelling.{One-spelling, Spelled};
 use crate::fault::NumberFault;
@@ -7,7 +8,7 @@ use crate::fault::NumberFault;
 // The number whose first byte is at `at`, with the place after it.
 pub fn read_number(file: &[u8], at: usize) -> Result<(u32, usize), NumberFault>
     ensures reads { λ r. ⌜ r ≡ number-at (now (file .entry)) at ⌝ }
-    ensures spelled { λ r. ⌜ Spelled (now (file .entry)) at r ⌝ }
+    ensures spelled { λ r. ⌜ Spelled (2 ^ 32) (now (file .entry)) at r ⌝ }
 {
     let mut value: u32 = 0;
     let mut weight: u32 = 1;
@@ -35,5 +36,5 @@ pub fn read_number(file: &[u8], at: usize) -> Result<(u32, usize), NumberFault>
 
 // Every value up to 4,294,967,295 has exactly one accepted spelling, and what is accepted at a place is that spelling.
 pub fn one_spelling_for_each_number()
-    ensures { λ _. ⌜ One-spelling ⌝ }
+    ensures { λ _. ⌜ One-spelling (2 ^ 32) ⌝ }
 {}

@@ -36,14 +36,28 @@ pub struct Plan<'a> {
     pub schedule: &'a [u8],
 }
 
-const NO_LEVEL: Level = Level { algorithm: Algorithm::Ticket, fan_out: 0, handoff_limit: 0 };
-const NO_SCRIPT: Script = Script { turns: 0, rest: 0, hold: 0 };
+const NO_LEVEL: Level = Level {
+    algorithm: Algorithm::Ticket,
+    fan_out: 0,
+    handoff_limit: 0,
+};
+
+const NO_SCRIPT: Script = Script {
+    turns: 0,
+    rest: 0,
+    hold: 0,
+};
 
 impl<'a> Plan<'a> {
     // A plan that uses nothing.
     pub fn blank() -> Plan<'a>
         ensures { λ r. ⌜ plan-numbers r ≡ blank-plan ⌝ }
     {
-        Plan { level_count: 0, levels: [NO_LEVEL; 4], scripts: [NO_SCRIPT; 64], schedule: &[] }
+        Plan {
+            level_count: 0,
+            levels: [NO_LEVEL; 4],
+            scripts: [NO_SCRIPT; 64],
+            schedule: &[],
+        }
     }
 }

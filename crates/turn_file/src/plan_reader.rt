@@ -4,9 +4,11 @@ ghost use Rattle.turn_file.specs.Order.{Read-whole};
 ghost use Rattle.turn_file.specs.Plan.{plan-numbers, with-item, plan-of, judgement, filled};
 ghost use Rattle.turn_file.specs.Reading.{seen-record};
 use crate::fault::FileFault;
+use crate::limits::MOST_LEVELS;
+use crate::limits::MOST_WORKERS;
 use crate::plan::Plan;
 use crate::reader::Reader;
-use crate::reader::Record;
+use crate::record::Record;
 
 impl<'a> Plan<'a> {
     // Enters what a record says.
@@ -16,12 +18,12 @@ impl<'a> Plan<'a> {
         match record {
             Record::Levels { count, .. } => self.level_count = count,
             Record::Level { rank, level, .. } => {
-                if rank < 4 {
+                if rank < MOST_LEVELS {
                     self.levels[rank as usize] = level;
                 }
             }
             Record::Script { worker, script, .. } => {
-                if worker < 64 {
+                if worker < MOST_WORKERS {
                     self.scripts[worker as usize] = script;
                 }
             }

@@ -49,11 +49,10 @@ returns-then-byte-lt128 c =
 pub loop-left-again : need.loop-left-again
 loop-left-again c =
     let l = c .loop-left in
-    let rest = groups (c .args .at) (l .left - 1) (l .next + 1) (drop (l .next + 1) (c .args .file .now)) in
-    (
+    let rest = groups (c .args .at) (l .left - 1) (l .next + 1) (drop (l .next + 1) (c .args .file .now)) in (
       l .inv .0 ∙ ap (behind (l .value) (l .weight)) (turn (c .args .at) (l .next) (c .args .file .now) (l .left) (c .loop-left-test .taken) (c .if-next-file .left) ∙ judged-more _ _ _ _ _ (c .else-byte-ge16 .either) (c .if-byte-lt128 .left))
-      ∙ behind-more (l .value) (l .weight) (getD (c .args .file .now) (l .next) 0) rest
-      ∙ ap (λ x. behind (l .value + x * l .weight) (l .weight * 128) rest) (sym (c .from-in-loop-left .ensures)),
+          ∙ behind-more (l .value) (l .weight) (getD (c .args .file .now) (l .next) 0) rest
+          ∙ ap (λ x. behind (l .value + x * l .weight) (l .weight * 128) rest) (sym (c .from-in-loop-left .ensures)),
       search needs,
       search needs,
     )

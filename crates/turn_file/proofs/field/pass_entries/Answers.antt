@@ -3,7 +3,7 @@ use mathlib.Core.Path.{sym, ap, _∙_}
 use Rattle.std.proofs.shelf.Results.{err-from-errBy}
 use Rattle.std.specs.declared.result.Result.the-variants.{Err}
 use Rattle.turn_file.proofs.Entries.{after-one, entries-more}
-use Rattle.turn_file.proofs.record.pass_entries.Needs as need
+use Rattle.turn_file.proofs.field.pass_entries.Needs as need
 
 pub returns-in-Break-after : need.returns-in-Break-after
 returns-in-Break-after c =

@@ -1,6 +1,6 @@
 use mathlib.Core.Path.{sym, _∙_}
 use Rattle.turn_file.proofs.Within.{schedule-takes}
-use Rattle.turn_file.proofs.reader.step_schedule.Needs as need
+use Rattle.turn_file.proofs.step.step_schedule.Needs as need
 
 pub cut-part-requires : need.cut-part-requires
 cut-part-requires c κs =

@@ -1,7 +1,7 @@
 use mathlib.Core.Path.{sym, _∙_}
 use native.Mathlib.Omega.{arith}
 use Rattle.turn_file.proofs.Within.{levels-take}
-use Rattle.turn_file.proofs.reader.step_levels.Needs as need
+use Rattle.turn_file.proofs.step.step_levels.Needs as need
 
 pub cut-part-requires : need.cut-part-requires
 cut-part-requires c κs =

@@ -25,8 +25,11 @@ use Rattle.turn_file.specs.declared.step.Stage.{Stage}
 use Rattle.turn_file.specs.declared.step.Stage.the-variants as stage
 use Rattle.turn_file.specs.Number.{number-at}
 use Rattle.turn_file.specs.Order.{record-spelling, Level-fits, Script-fits, Comes}
-use Rattle.turn_file.specs.Reading.{Item, levels, level, script, schedule, Stepped, between, in-order, step, after-level, after-script, next-step}
-use Rattle.turn_file.specs.Record.{bind, judge, with-kind, bad-levels, levels-at, algorithm-number, algorithm-at, bad-fan-out, fan-out-at, bad-limit, limit-at, level-at, bad-script-number, script-number-at, script-at, bad-entry, entry-at, entries-end, schedule-at}
+use Rattle.turn_file.specs.Reading.{Item, levels, level, script, schedule, Stepped, between, in-order, step}
+use Rattle.turn_file.specs.Reading.{after-level, after-script, next-step}
+use Rattle.turn_file.specs.Record.{bind, judge, with-kind, bad-levels, levels-at, algorithm-number, algorithm-at}
+use Rattle.turn_file.specs.Record.{bad-fan-out, fan-out-at, bad-limit, limit-at, level-at, bad-script-number}
+use Rattle.turn_file.specs.Record.{script-number-at, script-at, bad-entry, entry-at, entries-end, schedule-at}
 use Rattle.turn_file.specs.Spelling.{spell, Stands}
 use Rattle.turn_file.proofs.Fields.{field-is, algorithm-is}
 use Rattle.turn_file.proofs.Sound.{Few, entries-short, stands-cut}
@@ -47,11 +50,14 @@ bind-is next e k = ap (λ r. bind r next) e ∙ k
 module _ (file : List ℕ) where
   levels-complete : (n at to : ℕ) → 1 ≤ n → n ≤ 4 → Stands (spell n) file at to → levels-at file at ≡ Ok (n, to)
   levels-complete n at to some few s =
-      field-is kind.Levels bad-levels (fault.LevelCount at) file at (n, to) (spelled-number file at n to (omega arith) s) (grind (arith, tells))
+      field-is kind.Levels bad-levels (fault.LevelCount at) file at (n, to)
+      (spelled-number file at n to (omega arith) s) (grind (arith, tells))
 
-  fan-out-complete : (parties n at to : ℕ) → 1 ≤ n → parties * n ≤ 64 → n < 2 ^ 32 → Stands (spell n) file at to → fan-out-at parties file at ≡ Ok (n, to)
+  fan-out-complete : (parties n at to : ℕ) → 1 ≤ n → parties * n ≤ 64 → n < 2 ^ 32 → Stands (spell n) file at to →
+      fan-out-at parties file at ≡ Ok (n, to)
   fan-out-complete parties n at to some few small s =
-      field-is kind.Level (bad-fan-out parties) (fault.FanOut at) file at (n, to) (spelled-number file at n to small s) (grind (arith, tells))
+      field-is kind.Level (bad-fan-out parties) (fault.FanOut at) file at (n, to)
+      (spelled-number file at n to small s) (grind (arith, tells))
 
   limit-complete : (rank n at to : ℕ) → ((rank ≡ 0) × (n ≡ 0)) ⊎ ((rank ≡ 0 → ⊥) × (1 ≤ n) × (n ≤ 65535)) →
       Stands (cond (eqb rank 0) [] (spell n)) file at to → limit-at rank file at ≡ Ok (n, to)
@@ -62,7 +68,8 @@ module _ (file : List ℕ) where
       simp top (ap Ok same)
   limit-complete rank n at to (inr t) s =
       let below : eqb rank 0 ≡ false = grind (arith, tells) in
-      simp below (field-is kind.Level bad-limit (fault.HandoffLimit at) file at (n, to) (spelled-number file at n to (omega arith) (simp below at s)) (grind (arith, tells)))
+      simp below (field-is kind.Level bad-limit (fault.HandoffLimit at) file at (n, to)
+      (spelled-number file at n to (omega arith) (simp below at s)) (grind (arith, tells)))
 
   level-complete : (rank parties at to : ℕ) (l : Level) → 1 ≤ parties → Level-fits rank parties l →
       Stands (record-spelling (level rank l)) file at to → level-at rank parties file at ≡ Ok (l, to)
@@ -70,13 +77,16 @@ module _ (file : List ℕ) where
       let first = stands-split (spell (algorithm-number (l .algorithm))) _ file at to s in
       let second = stands-split (spell (l .«fan_out»)) _ file _ to (first .1) in
       let few = small-factor parties (l .«fan_out») some (fits .few) in
-      bind-is _ (algorithm-is file at (l .algorithm) _ (spelled-number file at _ _ (algorithm-small (l .algorithm)) (first .0)))
+      bind-is _ (algorithm-is file at (l .algorithm) _
+      (spelled-number file at _ _ (algorithm-small (l .algorithm)) (first .0)))
       (bind-is _ (fan-out-complete parties (l .«fan_out») _ _ (fits .some) (fits .few) (omega arith) (second .0))
       (bind-is _ (limit-complete rank (l .«handoff_limit») _ to (fits .limit) (second .1)) refl))
 
-  script-number-complete : (n at to : ℕ) → n ≤ 65535 → Stands (spell n) file at to → script-number-at file at ≡ Ok (n, to)
+  script-number-complete : (n at to : ℕ) → n ≤ 65535 → Stands (spell n) file at to →
+      script-number-at file at ≡ Ok (n, to)
   script-number-complete n at to few s =
-      field-is kind.Script bad-script-number (fault.ScriptNumber at) file at (n, to) (spelled-number file at n to (omega arith) s) (grind (arith, tells))
+      field-is kind.Script bad-script-number (fault.ScriptNumber at) file at (n, to)
+      (spelled-number file at n to (omega arith) s) (grind (arith, tells))
 
   script-complete : (worker at to : ℕ) (t : Script) → Script-fits t →
       Stands (record-spelling (script worker t)) file at to → script-at file at ≡ Ok (t, to)
@@ -94,11 +104,13 @@ module _ (file : List ℕ) where
       let first = stands-split (spell e) (joined spell es) file at to s in
       let fits = all .0 in
       bind-is _
-      (field-is kind.Schedule (bad-entry workers) (fault.Entry at) file at (e, at + length (spell e)) (spelled-number file at e _ (omega arith) (first .0)) (grind (arith, tells)))
+      (field-is kind.Schedule (bad-entry workers) (fault.Entry at) file at (e, at + length (spell e))
+      (spelled-number file at e _ (omega arith) (first .0)) (grind (arith, tells)))
       (entries-complete workers (at + length (spell e)) to es few (all .1) (first .1))
 
   -- the part of the entries is cut out where they stand
-  schedule-complete : (workers at to : ℕ) (es : List ℕ) → workers ≤ 64 → length es < 2 ^ 32 → Every (λ e. e < workers) es →
+  schedule-complete : (workers at to : ℕ) (es : List ℕ) → workers ≤ 64 → length es < 2 ^ 32 →
+      Every (λ e. e < workers) es →
       Stands (record-spelling (schedule es)) file at to →
       (first : ℕ) × (schedule-at workers file at ≡ Ok (first, to)) × (between first to file ≡ es)
   schedule-complete workers at to es few counted all s =
@@ -107,8 +119,10 @@ module _ (file : List ℕ) where
       let found = spelled-number file at (length es) first counted (split .0) in
       let ends = entries-complete workers first to es few all (split .1) in (
         first,
-        ap (λ r. judge (with-kind kind.Schedule r) (λ n. bind (entries-end (n .0) workers file (n .1)) (λ end. Ok (n .1, end)))) found ∙ bind-is _ ends refl,
-        stands-cut es file first to (subst (λ xs. Stands xs file first to) (entries-short workers es few all) (split .1)),
+        ap (λ r. judge (with-kind kind.Schedule r)
+            (λ n. bind (entries-end (n .0) workers file (n .1)) (λ end. Ok (n .1, end)))) found ∙ bind-is _ ends refl,
+        stands-cut es file first to
+            (subst (λ xs. Stands xs file first to) (entries-short workers es few all) (split .1)),
       )
 
 -- a record that is handed out, up to a place, before a stage
@@ -123,14 +137,44 @@ pub next-complete : (file : List ℕ) (at : ℕ) (from : Stage) (item : Item) (t
     Comes from item after → Stands (record-spelling item) file at to → Reached file at from item to after
 next-complete file at stage.Levels item to after few (n, is, some, most, then) s =
     let e = levels-complete file n at to some most (subst (λ i. Stands (record-spelling i) file at to) is s) in
-    record { stepped = _; found = ap in-order (bind-is _ e refl); item-is = sym is; place-is = refl; stage-is = sym then }
+    record {
+      stepped = _;
+      found = ap in-order (bind-is _ e refl);
+      item-is = sym is;
+      place-is = refl;
+      stage-is =
+          sym then;
+    }
 next-complete file at (stage.Level rank count parties) item to after few (l, is, fits, then) s =
-    let e = level-complete file rank parties at to l few fits (subst (λ i. Stands (record-spelling i) file at to) is s) in
-    record { stepped = _; found = ap in-order (bind-is _ e refl); item-is = sym is; place-is = refl; stage-is = sym then }
+    let e = level-complete file rank parties at to l few fits
+    (subst (λ i. Stands (record-spelling i) file at to) is s) in
+    record {
+      stepped = _;
+      found = ap in-order (bind-is _ e refl);
+      item-is = sym is;
+      place-is = refl;
+      stage-is =
+          sym then;
+    }
 next-complete file at (stage.Script worker workers) item to after few (t, is, fits, then) s =
     let e = script-complete file worker at to t fits (subst (λ i. Stands (record-spelling i) file at to) is s) in
-    record { stepped = _; found = ap in-order (bind-is _ e refl); item-is = sym is; place-is = refl; stage-is = sym then }
+    record {
+      stepped = _;
+      found = ap in-order (bind-is _ e refl);
+      item-is = sym is;
+      place-is = refl;
+      stage-is =
+          sym then;
+    }
 next-complete file at (stage.Schedule workers) item to after few (es, is, counted, all, then) s =
-    let e = schedule-complete file workers at to es few counted all (subst (λ i. Stands (record-spelling i) file at to) is s) in
-    record { stepped = _; found = ap in-order (bind-is _ (e .1) refl); item-is = ap schedule (e .2) ∙ sym is; place-is = refl; stage-is = sym then }
+    let e = schedule-complete file workers at to es few counted all
+    (subst (λ i. Stands (record-spelling i) file at to) is s) in
+    record {
+      stepped = _;
+      found = ap in-order (bind-is _ (e .1) refl);
+      item-is = ap schedule (e .2)
+          ∙ sym is;
+      place-is = refl;
+      stage-is = sym then;
+    }
 next-complete file at stage.End item to after few none s = absurd none

@@ -22,7 +22,8 @@ use Rattle.turn_file.specs.declared.step.Stage.the-variants as stage
 use Rattle.turn_file.specs.Fault.{longest-file}
 use Rattle.turn_file.specs.Order.{record-spelling, spelling, Comes, In-order, Whole, First-fault, Read-whole}
 use Rattle.turn_file.specs.Plan.{PlanNumbers, with-item, blank-plan, plan-from, plan-of, on-open, judgement, filled}
-use Rattle.turn_file.specs.Reading.{Item, Stepped, Cursor, in-order, levels-step, level-step, script-step, schedule-step, next-step, next-from, moved-on, open-file}
+use Rattle.turn_file.specs.Reading.{Item, Stepped, Cursor, in-order, levels-step, level-step, script-step}
+use Rattle.turn_file.specs.Reading.{schedule-step, next-step, next-from, moved-on, open-file}
 use Rattle.turn_file.specs.Spelling.{Bytes, Stands}
 use Rattle.turn_file.proofs.Complete.{next-complete}
 use Rattle.turn_file.proofs.Plans.{plan-ends, plan-refused, plan-goes-on}
@@ -34,7 +35,8 @@ use Rattle.turn_file.proofs.Steps.{next-takes, no-step}
 abbrev Ran : List ℕ → ℕ → Stage → List Item → ℕ → Stage → Type 0
 Ran file at from [] to after = (at ≡ to) × (from ≡ after)
 Ran file at from (item ∷ items) to after =
-    (s : Stepped) × (next-step file at from ≡ Ok (Some s)) × (s .handed .item ≡ item) × Ran file (s .next) (s .stage) items to after
+    (s : Stepped) × (next-step file at from ≡ Ok (Some s)) × (s .handed .item ≡ item)
+    × Ran file (s .next) (s .stage) items to after
 
 module _ (file : List ℕ) (each : Bytes file) where
   -- what was handed out is in order, and is spelled in the file
@@ -57,8 +59,13 @@ module _ (file : List ℕ) (each : Bytes file) where
       let r = next-complete file at from item (at + length (record-spelling item)) next few comes (split .0) in
       let k = next-sound file at from (r .stepped) each few (r .found) in
       let order = subst (λ g. In-order g items after) (sym (r .stage-is)) rest in
-      let stands = subst (λ n. Stands (spelling items) file n to) (sym (r .place-is)) (split .1) in
-      (r .stepped, r .found, r .item-is, ran-complete (r .stepped .next) (r .stepped .stage) items to after (k .few) order stands)
+      let stands = subst (λ n. Stands (spelling items) file n to) (sym (r .place-is)) (split .1) in (
+        r .stepped,
+        r .found,
+        r .item-is,
+        ran-complete (r .stepped .next) (r .stepped .stage) items to after
+            (k .few) order stands,
+      )
 
 -- one answer, one step
 one-step : (x : Result (Option Stepped) FileFault) (s t : Stepped) → x ≡ Ok (Some s) → x ≡ Ok (Some t) → s ≡ t
@@ -72,10 +79,15 @@ before-fault : (file : List ℕ) (at : ℕ) (from : Stage) (items : List Item) (
     Ran file at from items to after → next-step file to after ≡ Err f →
     (others : List Item) (end : ℕ) (last : Stage) → Ran file at from others end last →
     (more : List Item) × (items ≡ others ++ more) × Ran file end last more to after
-before-fault file at from items to after f r e [] end last q =
-    (items, refl, subst (λ n. Ran file n last items to after) (q .0) (subst (λ g. Ran file at g items to after) (q .1) r))
+before-fault file at from items to after f r e [] end last q = (
+  items,
+  refl,
+  subst (λ n. Ran file n last items to after) (q .0)
+      (subst (λ g. Ran file at g items to after) (q .1) r),
+)
 before-fault file at from [] to after f r e (o ∷ others) end last q =
-    absurd (no-fault (next-step file at from) (q .0) f (q .1) (ap (λ n. next-step file n from) (r .0) ∙ ap (next-step file to) (r .1) ∙ e))
+    absurd (no-fault (next-step file at from) (q .0) f (q .1)
+    (ap (λ n. next-step file n from) (r .0) ∙ ap (next-step file to) (r .1) ∙ e))
 before-fault file at from (i ∷ items) to after f r e (o ∷ others) end last q =
     let same = one-step (next-step file at from) (q .0) (r .0) (q .1) (r .1) in
     let onward = subst (λ u. Ran file (u .next) (u .stage) others end last) same (q .3) in
@@ -84,7 +96,8 @@ before-fault file at from (i ∷ items) to after f r e (o ∷ others) end last q
     (k .0, ap (λ x. x ∷ items) one ∙ ap (λ xs. o ∷ xs) (k .1), k .2)
 
 -- no record comes after the end
-at-end : (file : List ℕ) (at : ℕ) (from : Stage) (s : Stepped) → next-step file at from ≡ Ok (Some s) → from ≡ stage.End → ⊥
+at-end : (file : List ℕ) (at : ℕ) (from : Stage) (s : Stepped) → next-step file at from ≡ Ok (Some s) →
+    from ≡ stage.End → ⊥
 at-end file at from s found end =
     no-step (ltb at (length file)) _ s (ap (next-step file at) (sym end) ∙ found)
 
@@ -111,16 +124,19 @@ in-order-some : (r : Result Stepped RecordFault) → in-order r ≡ Ok None → 
 in-order-some (Ok s) e = let z : _≡_ {A = ℕ} 0 1 = cc in omega arith
 in-order-some (Err f) e = let z : _≡_ {A = ℕ} 0 1 = cc in omega arith
 
-ended : (later : Bool) (f : FileFault) → _≡_ {A = Result (Option Stepped) FileFault} (cond later (Err f) (Ok None)) (Ok None) → later ≡ false
+ended : (later : Bool) (f : FileFault) →
+    _≡_ {A = Result (Option Stepped) FileFault} (cond later (Err f) (Ok None)) (Ok None) → later ≡ false
 ended true f e = absurd (let z : _≡_ {A = ℕ} 0 1 = cc in omega arith)
 ended false f e = refl
 
-no-end-fault : (later : Bool) (f g : FileFault) → later ≡ false → _≡_ {A = Result (Option Stepped) FileFault} (cond later (Err f) (Ok None)) (Err g) → ⊥
+no-end-fault : (later : Bool) (f g : FileFault) → later ≡ false →
+    _≡_ {A = Result (Option Stepped) FileFault} (cond later (Err f) (Ok None)) (Err g) → ⊥
 no-end-fault true f g e h = let z : _≡_ {A = ℕ} 0 1 = cc in omega arith
 no-end-fault false f g e h = let z : _≡_ {A = ℕ} 0 1 = cc in omega arith
 
 -- there is no record only at the end of the file
-none-left : (file : List ℕ) (at : ℕ) (from : Stage) → next-step file at from ≡ Ok None → (from ≡ stage.End) × (length file ≤ at)
+none-left : (file : List ℕ) (at : ℕ) (from : Stage) → next-step file at from ≡ Ok None → (from ≡ stage.End)
+    × (length file ≤ at)
 none-left file at stage.Levels e = absurd (in-order-some (levels-step file at) e)
 none-left file at (stage.Level rank count parties) e = absurd (in-order-some (level-step rank count parties file at) e)
 none-left file at (stage.Script worker workers) e = absurd (in-order-some (script-step worker workers file at) e)
@@ -128,35 +144,44 @@ none-left file at (stage.Schedule workers) e = absurd (in-order-some (schedule-s
 none-left file at stage.End e = (refl, ltb-false at (length file) (ended (ltb at (length file)) _ e))
 
 -- a plan that was read: the records that were handed out say it
-plan-ran : (most : ℕ) (c : Cursor) (p q : PlanNumbers) → c .place ≤ length (c .file) → length (c .file) - c .place < most →
+plan-ran : (most : ℕ) (c : Cursor) (p q : PlanNumbers) → c .place ≤ length (c .file) →
+    length (c .file) - c .place < most →
     plan-from most c p ≡ Ok q →
-    (items : List Item) × Ran (c .file) (c .place) (c .stage) items (length (c .file)) stage.End × (q ≡ folded with-item p items)
+    (items : List Item) × Ran (c .file) (c .place) (c .stage) items (length (c .file)) stage.End
+    × (q ≡ folded with-item p items)
 plan-ran zero c p q within enough e = absurd (omega arith)
 plan-ran (suc most) c p q within enough e =
     elim (step-is (next-from c)) [
       | inl k ↦
           let t = next-takes (c .file) (c .place) (c .stage) (k .0) (k .1) in
-          let m = plan-ran most (moved-on c (Ok (Some (k .0)))) (with-item p (k .0 .handed .item)) q (t .1) (omega arith) (sym (plan-goes-on c p most (k .0) (k .1)) ∙ e) in
+          let m = plan-ran most (moved-on c (Ok (Some (k .0)))) (with-item p (k .0 .handed .item)) q (t .1)
+          (omega arith) (sym (plan-goes-on c p most (k .0) (k .1)) ∙ e) in
           (k .0 .handed .item ∷ m .0, (k .0, k .1, refl, m .1), m .2)
       | inr (inl k) ↦
           let n = none-left (c .file) (c .place) (c .stage) k in
           let same : p ≡ q = let s = sym (plan-ends c p (suc most) (omega arith) k) ∙ e in cc in
           ([], (let l = n .1 in omega arith, n .0), sym same)
-      | inr (inr k) ↦ absurd (let s = sym (plan-refused c p (suc most) (k .0) (omega arith) (k .1)) ∙ e in let z : _≡_ {A = ℕ} 0 1 = cc in omega arith)
+      | inr (inr k) ↦ absurd
+          (let s = sym (plan-refused c p (suc most) (k .0) (omega arith) (k .1))
+          ∙ e in let z : _≡_ {A = ℕ} 0 1 = cc in omega arith)
     ]
 
 -- a plan that was refused: the records before the fault were handed out
-plan-stopped : (most : ℕ) (c : Cursor) (p : PlanNumbers) (f : FileFault) → c .place ≤ length (c .file) → length (c .file) - c .place < most →
+plan-stopped : (most : ℕ) (c : Cursor) (p : PlanNumbers) (f : FileFault) → c .place ≤ length (c .file) →
+    length (c .file) - c .place < most →
     plan-from most c p ≡ Err f →
-    (items : List Item) × (at : ℕ) × (g : Stage) × Ran (c .file) (c .place) (c .stage) items at g × (next-step (c .file) at g ≡ Err f)
+    (items : List Item) × (at : ℕ) × (g : Stage) × Ran (c .file) (c .place) (c .stage) items at g
+    × (next-step (c .file) at g ≡ Err f)
 plan-stopped zero c p f within enough e = absurd (omega arith)
 plan-stopped (suc most) c p f within enough e =
     elim (step-is (next-from c)) [
       | inl k ↦
           let t = next-takes (c .file) (c .place) (c .stage) (k .0) (k .1) in
-          let m = plan-stopped most (moved-on c (Ok (Some (k .0)))) (with-item p (k .0 .handed .item)) f (t .1) (omega arith) (sym (plan-goes-on c p most (k .0) (k .1)) ∙ e) in
+          let m = plan-stopped most (moved-on c (Ok (Some (k .0)))) (with-item p (k .0 .handed .item)) f (t .1)
+          (omega arith) (sym (plan-goes-on c p most (k .0) (k .1)) ∙ e) in
           (k .0 .handed .item ∷ m .0, m .1, m .2, (k .0, k .1, refl, m .3), m .4)
-      | inr (inl k) ↦ absurd (let s = sym (plan-ends c p (suc most) (omega arith) k) ∙ e in let z : _≡_ {A = ℕ} 0 1 = cc in omega arith)
+      | inr (inl k) ↦ absurd
+          (let s = sym (plan-ends c p (suc most) (omega arith) k) ∙ e in let z : _≡_ {A = ℕ} 0 1 = cc in omega arith)
       | inr (inr k) ↦
           let same : k .0 ≡ f = let s = sym (plan-refused c p (suc most) (k .0) (omega arith) (k .1)) ∙ e in cc in
           ([], c .place, c .stage, (refl, refl), k .1 ∙ ap Err same)
@@ -167,12 +192,14 @@ start file = record { file = file; place = 0; stage = stage.Levels }
 
 too-long : (file : List ℕ) → longest-file < length file → plan-of file ≡ Err TooLong
 too-long file long =
-    ap (λ t. on-open (cond t (Err TooLong) (Ok (start file))) (λ c. plan-from (suc (length file)) c blank-plan)) (lt-ltb longest-file (length file) long)
+    ap (λ t. on-open (cond t (Err TooLong) (Ok (start file))) (λ c. plan-from (suc (length file)) c blank-plan))
+    (lt-ltb longest-file (length file) long)
 
 not-too-long : (file : List ℕ) → length file ≤ longest-file →
     plan-of file ≡ plan-from (suc (length file)) (start file) blank-plan
 not-too-long file short =
-    ap (λ t. on-open (cond t (Err TooLong) (Ok (start file))) (λ c. plan-from (suc (length file)) c blank-plan)) (le-ltb longest-file (length file) short)
+    ap (λ t. on-open (cond t (Err TooLong) (Ok (start file))) (λ c. plan-from (suc (length file)) c blank-plan))
+    (le-ltb longest-file (length file) short)
 
 -- a file is what stands in it from its beginning to its end
 stands-whole : (xs file : List ℕ) → file ≡ xs → Stands xs file 0 (length file)
@@ -187,7 +214,8 @@ whole-stands xs file s = s .begins ∙ ap (λ ys. xs ++ ys) (drop-all (length fi
 module _ (file : List ℕ) (each : Bytes file) (short : length file ≤ longest-file) where
   read-accepted : (p : PlanNumbers) → plan-of file ≡ Ok p → Whole file p
   read-accepted p e =
-      let r = plan-ran (suc (length file)) (start file) blank-plan p (omega arith) (omega arith) (sym (not-too-long file short) ∙ e) in
+      let r = plan-ran (suc (length file)) (start file) blank-plan p (omega arith) (omega arith)
+      (sym (not-too-long file short) ∙ e) in
       let k = ran-sound file each 0 stage.Levels (r .0) (length file) stage.End tt (r .1) in
       record {
         records = r .0;
@@ -196,12 +224,14 @@ module _ (file : List ℕ) (each : Bytes file) (short : length file ≤ longest-
         says = r .2;
         only = λ others order spelled.
             one-way file 0 stage.Levels (r .0) others (length file) (length file) (r .1)
-            (ran-complete file each 0 stage.Levels others (length file) stage.End tt order (stands-whole (spelling others) file spelled));
+            (ran-complete file each 0 stage.Levels others (length file) stage.End tt order
+            (stands-whole (spelling others) file spelled));
       }
 
   read-refused : (f : FileFault) → plan-of file ≡ Err f → First-fault file f
   read-refused f e =
-      let r = plan-stopped (suc (length file)) (start file) blank-plan f (omega arith) (omega arith) (sym (not-too-long file short) ∙ e) in
+      let r = plan-stopped (suc (length file)) (start file) blank-plan f (omega arith) (omega arith)
+      (sym (not-too-long file short) ∙ e) in
       let k = ran-sound file each 0 stage.Levels (r .0) (r .1) (r .2) tt (r .3) in
       record {
         records = r .0;
@@ -215,13 +245,16 @@ module _ (file : List ℕ) (each : Bytes file) (short : length file ≤ longest-
             let m = before-fault file 0 stage.Levels (r .0) (r .1) (r .2) f (r .3) (r .4) others to after q in
             (m .0, m .1);
         none = λ others order spelled.
-            let q = ran-complete file each 0 stage.Levels others (length file) stage.End tt order (stands-whole (spelling others) file spelled) in
-            let m = before-fault file 0 stage.Levels (r .0) (r .1) (r .2) f (r .3) (r .4) others (length file) stage.End q in
+            let q = ran-complete file each 0 stage.Levels others (length file) stage.End tt order
+            (stands-whole (spelling others) file spelled) in
+            let m = before-fault file 0 stage.Levels (r .0) (r .1) (r .2) f (r .3) (r .4) others
+            (length file) stage.End q in
             past-end (m .0) (r .1) (r .2) (m .2) (r .4);
       }
     where
       -- at the end of the file there is neither a record nor a fault
-      past-end : (more : List Item) (at : ℕ) (g : Stage) → Ran file (length file) stage.End more at g → next-step file at g ≡ Err f → ⊥
+      past-end : (more : List Item) (at : ℕ) (g : Stage) → Ran file (length file) stage.End more at g →
+          next-step file at g ≡ Err f → ⊥
       past-end [] at g m refused =
           no-end-fault (ltb (length file) (length file)) _ f (le-ltb (length file) (length file) (omega arith))
           (ap (λ n. next-step file n stage.End) (m .0) ∙ ap (next-step file at) (m .1) ∙ refused)

@@ -18,7 +18,8 @@ use Rattle.turn_file.specs.Reading.{Handed, Stepped, Cursor, open-file, next-f
 use Rattle.turn_file.proofs.Steps.{next-takes}
 
 -- what was answered tells what the step was
-pub handed-some : (x : Result (Option Stepped) FileFault) (h : Handed) → Ok (Some h) ≡ handed-out x → (s : Stepped) × (x ≡ Ok (Some s)) × (s .handed ≡ h)
+pub handed-some : (x : Result (Option Stepped) FileFault) (h : Handed) → Ok (Some h) ≡ handed-out x → (s : Stepped)
+    × (x ≡ Ok (Some s)) × (s .handed ≡ h)
 handed-some (Ok (Some s)) h e = (s, refl, cc)
 handed-some (Ok None) h e = absurd (let z : _≡_ {A = ℕ} 0 1 = cc in omega arith)
 handed-some (Err f) h e = absurd (let z : _≡_ {A = ℕ} 0 1 = cc in omega arith)
@@ -36,21 +37,26 @@ handed-fault (Err g) f e = let q : g ≡ f = cc in ap Err q
 module _ (c : Cursor) (p : PlanNumbers) where
   pub plan-ends : (most : ℕ) → 0 < most → next-from c ≡ Ok None → plan-from most c p ≡ Ok p
   plan-ends zero some e = absurd (omega arith)
-  plan-ends (suc most) some e = ap (λ x. on-next p x (λ s. plan-from most (moved-on c (Ok (Some s))) (with-item p (s .handed .item)))) e
+  plan-ends (suc most) some e =
+      ap (λ x. on-next p x (λ s. plan-from most (moved-on c (Ok (Some s))) (with-item p (s .handed .item)))) e
 
   pub plan-refused : (most : ℕ) (f : FileFault) → 0 < most → next-from c ≡ Err f → plan-from most c p ≡ Err f
   plan-refused zero f some e = absurd (omega arith)
-  plan-refused (suc most) f some e = ap (λ x. on-next p x (λ s. plan-from most (moved-on c (Ok (Some s))) (with-item p (s .handed .item)))) e
+  plan-refused (suc most) f some e =
+      ap (λ x. on-next p x (λ s. plan-from most (moved-on c (Ok (Some s))) (with-item p (s .handed .item)))) e
 
-  pub plan-goes-on : (most : ℕ) (s : Stepped) → next-from c ≡ Ok (Some s) → plan-from (suc most) c p ≡ plan-from most (moved-on c (Ok (Some s))) (with-item p (s .handed .item))
-  plan-goes-on most s e = ap (λ x. on-next p x (λ s. plan-from most (moved-on c (Ok (Some s))) (with-item p (s .handed .item)))) e
+  pub plan-goes-on : (most : ℕ) (s : Stepped) → next-from c ≡ Ok (Some s) →
+      plan-from (suc most) c p ≡ plan-from most (moved-on c (Ok (Some s))) (with-item p (s .handed .item))
+  plan-goes-on most s e =
+      ap (λ x. on-next p x (λ s. plan-from most (moved-on c (Ok (Some s))) (with-item p (s .handed .item)))) e
 
 -- the records from a cursor on complete a plan of the file
 abbrev pub Completes : List ℕ → Cursor → PlanNumbers → Result PlanNumbers FileFault → Type 0
 Completes file c p whole =
     (c .file ≡ file) × ((most : ℕ) × (length file - c .place < most) × (plan-from most c p ≡ whole))
 
-module _ (file : List ℕ) (c : Cursor) (p : PlanNumbers) (whole : Result PlanNumbers FileFault) (h : Completes file c p whole) where
+module _ (file : List ℕ) (c : Cursor) (p : PlanNumbers) (whole : Result PlanNumbers FileFault)
+    (h : Completes file c p whole) where
   pub completed : next-from c ≡ Ok None → whole ≡ Ok p
   completed e = sym (h .1 .2) ∙ plan-ends c p (h .1 .0) (let k = h .1 .1 in omega arith) e
 
@@ -58,27 +64,43 @@ module _ (file : List ℕ) (c : Cursor) (p : PlanNumbers) (whole : Result PlanNu
   refused f e = sym (h .1 .2) ∙ plan-refused c p (h .1 .0) f (let k = h .1 .1 in omega arith) e
 
   pub takes : (s : Stepped) → next-from c ≡ Ok (Some s) → (c .place < s .next) × (s .next ≤ length file)
-  takes s e = let t = next-takes (c .file) (c .place) (c .stage) s e in (t .0, subst (λ f. s .next ≤ length f) (h .0) (t .1))
+  takes s e = let t = next-takes (c .file) (c .place) (c .stage) s e in
+      (t .0, subst (λ f. s .next ≤ length f) (h .0) (t .1))
 
-  pub goes-on : (s : Stepped) → next-from c ≡ Ok (Some s) → Completes file (moved-on c (Ok (Some s))) (with-item p (s .handed .item)) whole
+  pub goes-on : (s : Stepped) → next-from c ≡ Ok (Some s) →
+      Completes file (moved-on c (Ok (Some s))) (with-item p (s .handed .item)) whole
   goes-on s e =
       let t = takes s e in
       let k = h .1 .1 in
-      let one : h .1 .0 ≡ suc (h .1 .0 - 1) = omega arith in
-      (h .0, (h .1 .0 - 1, omega arith, sym (plan-goes-on c p (h .1 .0 - 1) s e) ∙ ap (λ n. plan-from n c p) (sym one) ∙ h .1 .2))
+      let one : h .1 .0 ≡ suc (h .1 .0 - 1) = omega arith in (
+        h .0,
+        (
+          h .1 .0 - 1,
+          omega arith,
+          sym (plan-goes-on c p (h .1 .0 - 1) s e) ∙ ap (λ n. plan-from n c p) (sym one)
+              ∙ h .1 .2,
+        ),
+      )
 
 -- at the beginning
-opened-at : (too-long : Bool) (f : FileFault) (a c : Cursor) → _≡_ {A = Result Cursor FileFault} (Ok c) (cond too-long (Err f) (Ok a)) → a ≡ c
+opened-at : (too-long : Bool) (f : FileFault) (a c : Cursor) →
+    _≡_ {A = Result Cursor FileFault} (Ok c) (cond too-long (Err f) (Ok a)) → a ≡ c
 opened-at true f a c e = absurd (let z : _≡_ {A = ℕ} 0 1 = cc in omega arith)
 opened-at false f a c e = cc
 
 pub not-opened : (file : List ℕ) (f : FileFault) → Err f ≡ open-file file → plan-of file ≡ Err f
 not-opened file f e = ap (λ r. on-open r (λ d. plan-from (suc (length file)) d blank-plan)) (sym e)
 
-pub begins : (file : List ℕ) (c : Cursor) (p : PlanNumbers) → Ok c ≡ open-file file → p ≡ blank-plan → Completes file c p (plan-of file)
+pub begins : (file : List ℕ) (c : Cursor) (p : PlanNumbers) → Ok c ≡ open-file file → p ≡ blank-plan →
+    Completes file c p (plan-of file)
 begins file c p e b =
     let start = opened-at (ltb longest-file (length file)) TooLong _ c e in
     let at : 0 ≡ c .place = ap (λ (d : Cursor). d .place) start in (
       sym (ap (λ (d : Cursor). d .file) start),
-      (suc (length file), omega arith, ap (plan-from (suc (length file)) c) b ∙ ap (λ r. on-open r (λ d. plan-from (suc (length file)) d blank-plan)) e),
+      (
+        suc (length file),
+        omega arith,
+        ap (plan-from (suc (length file)) c) b
+            ∙ ap (λ r. on-open r (λ d. plan-from (suc (length file)) d blank-plan)) e,
+      ),
     )

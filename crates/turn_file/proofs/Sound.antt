@@ -20,13 +20,16 @@ use Rattle.turn_file.specs.declared.step.Stage.{Stage}
 use Rattle.turn_file.specs.declared.step.Stage.the-variants as stage
 use Rattle.turn_file.specs.Number.{number-at}
 use Rattle.turn_file.specs.Order.{record-spelling, Level-fits, Script-fits, Comes}
-use Rattle.turn_file.specs.Reading.{levels, level, script, schedule, Stepped, between, after-level, after-script, levels-step, level-step, script-step, schedule-step, next-step}
-use Rattle.turn_file.specs.Record.{bad-levels, limit-at, bad-limit, levels-at, level-at, bad-script-number, script-at, bad-entry, entry-at, entries-end, schedule-at}
+use Rattle.turn_file.specs.Reading.{levels, level, script, schedule, Stepped, between, after-level, after-script}
+use Rattle.turn_file.specs.Reading.{levels-step, level-step, script-step, schedule-step, next-step}
+use Rattle.turn_file.specs.Record.{bad-levels, limit-at, bad-limit, levels-at, level-at, bad-script-number, script-at}
+use Rattle.turn_file.specs.Record.{bad-entry, entry-at, entries-end, schedule-at}
 use Rattle.turn_file.specs.Spelling.{spell, Bytes, Stands}
 use Rattle.turn_file.proofs.Fields.{bind-ok, fan-out-fits}
 use Rattle.turn_file.proofs.Spelled.{number-spelled, spell-short, stands-none, stands-both}
 use Rattle.turn_file.proofs.Steps.{in-order-ok, of-step, no-step}
-use Rattle.turn_file.proofs.Within.{limit-ok, LevelFields, level-ok, ScriptFields, script-ok, levels-ok, entry-ok, ScheduleFields, schedule-ok}
+use Rattle.turn_file.proofs.Within.{limit-ok, LevelFields, level-ok, ScriptFields, script-ok, levels-ok, entry-ok}
+use Rattle.turn_file.proofs.Within.{ScheduleFields, schedule-ok}
 
 module _ (file : List ℕ) (each : Bytes file) where
   limit-sound : (rank at : ℕ) (n : ℕ × ℕ) → limit-at rank file at ≡ Ok n →
@@ -41,8 +44,10 @@ module _ (file : List ℕ) (each : Bytes file) where
             (simp (top, here) (stands-none file at), inl (t .0, zero-limit))
         | inr t ↦
             let below : eqb rank 0 ≡ false = grind (arith, tells) in
-            let fits = t .2 in
-            (simp below (number-spelled file at n each (t .1) .1), inr (t .0, grind (arith, tells), grind (arith, tells)))
+            let fits = t .2 in (
+              simp below (number-spelled file at n each (t .1) .1),
+              inr (t .0, grind (arith, tells), grind (arith, tells)),
+            )
       ]
 
   level-sound : (rank parties at to : ℕ) (l : Level) → LevelFields rank parties file at l to →
@@ -51,7 +56,8 @@ module _ (file : List ℕ) (each : Bytes file) where
       let fan = fan-out-fits parties (l .«fan_out») (f .fits) in
       let limit = limit-sound rank (f .at-limit) _ (f .limit) in (
         record { some = fan .0; few = fan .1; limit = limit .1 },
-        stands-both (number-spelled file at _ each (f .algorithm) .1) (stands-both (number-spelled file (f .at-fan-out) _ each (f .fan-out) .1) (limit .0)),
+        stands-both (number-spelled file at _ each (f .algorithm) .1)
+            (stands-both (number-spelled file (f .at-fan-out) _ each (f .fan-out) .1) (limit .0)),
       )
 
   script-fits : (n : ℕ) → bad-script-number n ≡ false → n ≤ 65535
@@ -60,8 +66,15 @@ module _ (file : List ℕ) (each : Bytes file) where
   script-sound : (worker at to : ℕ) (s : Script) → ScriptFields file at s to →
       Script-fits s × Stands (record-spelling (script worker s)) file at to
   script-sound worker at to s f = (
-    record { turns = script-fits _ (f .turns .1); rest = script-fits _ (f .rest .1); hold = script-fits _ (f .hold .1) },
-    stands-both (number-spelled file at _ each (f .turns .0) .1) (stands-both (number-spelled file (f .at-rest) _ each (f .rest .0) .1) (number-spelled file (f .at-hold) _ each (f .hold .0) .1)),
+    record {
+      turns = script-fits _ (f .turns .1);
+      rest = script-fits _ (f .rest .1);
+      hold =
+          script-fits _ (f .hold .1);
+    },
+    stands-both (number-spelled file at _ each (f .turns .0) .1)
+        (stands-both (number-spelled file (f .at-rest) _ each (f .rest .0) .1)
+        (number-spelled file (f .at-hold) _ each (f .hold .0) .1)),
   )
 
   entries-sound : (count workers at to : ℕ) → entries-end count workers file at ≡ Ok to →
@@ -83,24 +96,28 @@ module _ (file : List ℕ) (each : Bytes file) where
 pub entries-short : (workers : ℕ) (es : List ℕ) → workers ≤ 64 → Every (λ e. e < workers) es → joined spell es ≡ es
 entries-short workers [] few all = refl
 entries-short workers (e ∷ es) few all =
-    ap (λ xs. xs ++ joined spell es) (spell-short e (let k = all .0 in omega arith)) ∙ ap (λ xs. e ∷ xs) (entries-short workers es few (all .1))
+    ap (λ xs. xs ++ joined spell es) (spell-short e (let k = all .0 in omega arith))
+    ∙ ap (λ xs. e ∷ xs) (entries-short workers es few (all .1))
 
 -- what stands between two places is what is cut out there
 pub stands-cut : (xs file : List ℕ) (at to : ℕ) → Stands xs file at to → between at to file ≡ xs
 stands-cut xs file at to s =
     let long : to - at ≡ length xs = omega (arith, s .ends) in
-    ap (λ n. take n (drop at file)) long ∙ ap (take (length xs)) (s .begins) ∙ take-at xs (drop to file) (length xs) refl
+    ap (λ n. take n (drop at file)) long ∙ ap (take (length xs)) (s .begins)
+    ∙ take-at xs (drop to file) (length xs) refl
 
 module _ (file : List ℕ) (each : Bytes file) where
   schedule-sound : (workers at first to : ℕ) → workers ≤ 64 → ScheduleFields workers file at first to →
-      (length (between first to file) < 2 ^ 32) × Every (λ e. e < workers) (between first to file) × Stands (record-spelling (schedule (between first to file))) file at to
+      (length (between first to file) < 2 ^ 32) × Every (λ e. e < workers) (between first to file)
+      × Stands (record-spelling (schedule (between first to file))) file at to
   schedule-sound workers at first to few f =
       let counted = number-spelled file at _ each (f .counted) in
       let k = entries-sound file each (f .count) workers first to (f .entries) in
       let short = entries-short workers (k .0) few (k .2) in
       let cut = stands-cut (k .0) file first to (subst (λ xs. Stands xs file first to) short (k .3)) in
       let said = subst (λ n. Stands (spell n) file at first) (sym (k .1)) (counted .1) in
-      subst (λ es. (length es < 2 ^ 32) × Every (λ e. e < workers) es × Stands (record-spelling (schedule es)) file at to) (sym cut)
+      subst (λ es. (length es < 2 ^ 32) × Every (λ e. e < workers) es
+      × Stands (record-spelling (schedule es)) file at to) (sym cut)
       (omega (arith, counted .0, k .1), k .2, stands-both said (k .3))
 
 -- there are workers, and few, at every stage that is reached
@@ -135,7 +152,8 @@ pub record Sound-step (file : List ℕ) (at : ℕ) (from : Stage) (s : Stepped) 
   pub stands : Stands (record-spelling (s .handed .item)) file at (s .next)
   pub few : Few (s .stage)
 
-pub next-sound : (file : List ℕ) (at : ℕ) (from : Stage) (s : Stepped) → Bytes file → Few from → next-step file at from ≡ Ok (Some s) → Sound-step file at from s
+pub next-sound : (file : List ℕ) (at : ℕ) (from : Stage) (s : Stepped) → Bytes file → Few from →
+    next-step file at from ≡ Ok (Some s) → Sound-step file at from s
 next-sound file at stage.Levels s each few e =
     let b = bind-ok (levels-at file at) _ s (in-order-ok (levels-step file at) s e) in
     let k = levels-ok file at (b .0) (b .1) in
@@ -151,7 +169,8 @@ next-sound file at (stage.Level rank count parties) s each few e =
     of-step (Sound-step file at (stage.Level rank count parties)) _ s (b .2) (record {
       comes = (b .0 .0, refl, k .0, refl);
       stands = k .1;
-      few = few-after-level rank count (parties * b .0 .0 .«fan_out») (some-product parties _ few (k .0 .some)) (k .0 .few);
+      few = few-after-level rank count (parties * b .0 .0 .«fan_out») (some-product parties _ few (k .0 .some))
+          (k .0 .few);
     })
 next-sound file at (stage.Script worker workers) s each few e =
     let b = bind-ok (script-at file at) _ s (in-order-ok (script-step worker workers file at) s e) in

@@ -5,7 +5,8 @@ use mathlib.Core.List.{List, [], _∷_, _++_}
 use mathlib.Core.Logic.{_⊎_, inl, inr}
 use native.Mathlib.Omega.{arith}
 use lib.ListN.{length, drop, getD}
-use Rattle.std.proofs.shelf.Lists.{append-assoc, append-cancel-left, length-append, length-drop, drop-drop, drop-at, getD-drop}
+use Rattle.std.proofs.shelf.Lists.{append-assoc, append-cancel-left, length-append, length-drop, drop-drop, drop-at}
+use Rattle.std.proofs.shelf.Lists.{getD-drop}
 use Rattle.std.proofs.shelf.Tests.{cases-lt}
 use Rattle.std.proofs.shelf.Ways.{tells}
 use Rattle.std.specs.declared.result.Result.{Result}

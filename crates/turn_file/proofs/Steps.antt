@@ -33,7 +33,8 @@ pub of-step : (P : Stepped → Type 0) (a s : Stepped) → _≡_ {A = Result Ste
 of-step P a s e h = let q : a ≡ s = cc in subst P q h
 
 -- each record takes a byte at least
-pub next-takes : (file : List ℕ) (at : ℕ) (g : Stage) (s : Stepped) → next-step file at g ≡ Ok (Some s) → Takes at (s .next) file
+pub next-takes : (file : List ℕ) (at : ℕ) (g : Stage) (s : Stepped) → next-step file at g ≡ Ok (Some s) →
+    Takes at (s .next) file
 next-takes file at stage.Levels s e =
     let b = bind-ok (levels-at file at) _ s (in-order-ok (levels-step file at) s e) in
     of-step (λ t. Takes at (t .next) file) _ s (b .2) (levels-take file at (b .0) (b .1))

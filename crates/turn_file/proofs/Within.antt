@@ -18,19 +18,24 @@ use Rattle.turn_file.specs.declared.fault.RecordKind.the-variants as kind
 use Rattle.turn_file.specs.declared.plan.Level.{Level}
 use Rattle.turn_file.specs.declared.plan.Script.{Script}
 use Rattle.turn_file.specs.Number.{number-at}
-use Rattle.turn_file.specs.Record.{bind, judge, levels-at, bad-levels, algorithm-number, algorithm-at, bad-fan-out, fan-out-at, bad-limit, limit-at, level-at, bad-script-number, script-number-at, script-at, bad-entry, entry-at, entries-end, schedule-at}
+use Rattle.turn_file.specs.Record.{bind, judge, levels-at, bad-levels, algorithm-number, algorithm-at, bad-fan-out}
+use Rattle.turn_file.specs.Record.{fan-out-at, bad-limit, limit-at, level-at, bad-script-number, script-number-at}
+use Rattle.turn_file.specs.Record.{script-at, bad-entry, entry-at, entries-end, schedule-at}
 use Rattle.turn_file.proofs.Fields.{bind-ok, judge-ok, field-ok, algorithm-ok}
 use Rattle.turn_file.proofs.Spelled.{number-within}
 
 -- the top level has no limit
-pub limit-ok : (rank : ℕ) (file : List ℕ) (at : ℕ) (n : ℕ × ℕ) → limit-at rank file at ≡ Ok n → ((rank ≡ 0) × (n ≡ (0, at))) ⊎ ((rank ≡ 0 → ⊥) × (number-at file at ≡ Ok n) × (bad-limit (n .0) ≡ false))
+pub limit-ok : (rank : ℕ) (file : List ℕ) (at : ℕ) (n : ℕ × ℕ) → limit-at rank file at ≡ Ok n →
+    ((rank ≡ 0) × (n ≡ (0, at))) ⊎ ((rank ≡ 0 → ⊥) × (number-at file at ≡ Ok n) × (bad-limit (n .0) ≡ false))
 limit-ok rank file at n e =
     elim (eqb-tells rank 0) [
       | inl t ↦ inl (t .1, let s = simp (t .0) at e in cc)
-      | inr t ↦ inr (let f = field-ok kind.Level bad-limit (fault.HandoffLimit at) file at n (simp (t .0) at e) in (t .1, f .0, f .1))
+      | inr t ↦ inr (let f = field-ok kind.Level bad-limit (fault.HandoffLimit at) file at n (simp (t .0) at e) in
+          (t .1, f .0, f .1))
     ]
 
-limit-within : (rank : ℕ) (file : List ℕ) (at : ℕ) (n : ℕ × ℕ) → limit-at rank file at ≡ Ok n → at ≤ length file → (at ≤ n .1) × (n .1 ≤ length file)
+limit-within : (rank : ℕ) (file : List ℕ) (at : ℕ) (n : ℕ × ℕ) → limit-at rank file at ≡ Ok n → at ≤ length file →
+    (at ≤ n .1) × (n .1 ≤ length file)
 limit-within rank file at n e before =
     elim (limit-ok rank file at n e) [
       | inl t ↦ let same = ap (λ (m : ℕ × ℕ). m .1) (t .1) in (omega arith, omega arith)
@@ -46,7 +51,8 @@ pub record LevelFields (rank parties : ℕ) (file : List ℕ) (at : ℕ) (l : Le
   pub fits : bad-fan-out parties (l .«fan_out») ≡ false
   pub limit : limit-at rank file at-limit ≡ Ok (l .«handoff_limit», to)
 
-pub level-ok : (rank parties : ℕ) (file : List ℕ) (at : ℕ) (l : Level × ℕ) → level-at rank parties file at ≡ Ok l → LevelFields rank parties file at (l .0) (l .1)
+pub level-ok : (rank parties : ℕ) (file : List ℕ) (at : ℕ) (l : Level × ℕ) → level-at rank parties file at ≡ Ok l →
+    LevelFields rank parties file at (l .0) (l .1)
 level-ok rank parties file at l e =
     let a = bind-ok (algorithm-at file at) _ l e in
     let f = bind-ok (fan-out-at parties file (a .0 .1)) _ l (a .2) in
@@ -71,10 +77,12 @@ pub record ScriptFields (file : List ℕ) (at : ℕ) (s : Script) (to : ℕ) : T
   pub rest : (number-at file at-rest ≡ Ok (s .rest, at-hold)) × (bad-script-number (s .rest) ≡ false)
   pub hold : (number-at file at-hold ≡ Ok (s .hold, to)) × (bad-script-number (s .hold) ≡ false)
 
-script-number-ok : (file : List ℕ) (at : ℕ) (n : ℕ × ℕ) → script-number-at file at ≡ Ok n → (number-at file at ≡ Ok n) × (bad-script-number (n .0) ≡ false)
+script-number-ok : (file : List ℕ) (at : ℕ) (n : ℕ × ℕ) → script-number-at file at ≡ Ok n → (number-at file at ≡ Ok n)
+    × (bad-script-number (n .0) ≡ false)
 script-number-ok file at n e = field-ok kind.Script bad-script-number (fault.ScriptNumber at) file at n e
 
-pub script-ok : (file : List ℕ) (at : ℕ) (s : Script × ℕ) → script-at file at ≡ Ok s → ScriptFields file at (s .0) (s .1)
+pub script-ok : (file : List ℕ) (at : ℕ) (s : Script × ℕ) → script-at file at ≡ Ok s →
+    ScriptFields file at (s .0) (s .1)
 script-ok file at s e =
     let t = bind-ok (script-number-at file at) _ s e in
     let r = bind-ok (script-number-at file (t .0 .1)) _ s (t .2) in
@@ -89,10 +97,12 @@ script-ok file at s e =
       hold = script-number-ok file (r .0 .1) (h .0) (h .1);
     })
 
-pub levels-ok : (file : List ℕ) (at : ℕ) (n : ℕ × ℕ) → levels-at file at ≡ Ok n → (number-at file at ≡ Ok n) × (bad-levels (n .0) ≡ false)
+pub levels-ok : (file : List ℕ) (at : ℕ) (n : ℕ × ℕ) → levels-at file at ≡ Ok n → (number-at file at ≡ Ok n)
+    × (bad-levels (n .0) ≡ false)
 levels-ok file at n e = field-ok kind.Levels bad-levels (fault.LevelCount at) file at n e
 
-pub entry-ok : (workers : ℕ) (file : List ℕ) (at : ℕ) (n : ℕ × ℕ) → entry-at workers file at ≡ Ok n → (number-at file at ≡ Ok n) × (bad-entry workers (n .0) ≡ false)
+pub entry-ok : (workers : ℕ) (file : List ℕ) (at : ℕ) (n : ℕ × ℕ) → entry-at workers file at ≡ Ok n →
+    (number-at file at ≡ Ok n) × (bad-entry workers (n .0) ≡ false)
 entry-ok workers file at n e = field-ok kind.Schedule (bad-entry workers) (fault.Entry at) file at n e
 
 -- the count and the entries of an accepted schedule
@@ -101,12 +111,14 @@ pub record ScheduleFields (workers : ℕ) (file : List ℕ) (at first to : ℕ) 
   pub counted : number-at file at ≡ Ok (count, first)
   pub entries : entries-end count workers file first ≡ Ok to
 
-pub schedule-ok : (workers : ℕ) (file : List ℕ) (at : ℕ) (e : ℕ × ℕ) → schedule-at workers file at ≡ Ok e → ScheduleFields workers file at (e .0) (e .1)
+pub schedule-ok : (workers : ℕ) (file : List ℕ) (at : ℕ) (e : ℕ × ℕ) → schedule-at workers file at ≡ Ok e →
+    ScheduleFields workers file at (e .0) (e .1)
 schedule-ok workers file at e h =
     let j = judge-ok kind.Schedule (number-at file at) _ e h in
     let b = bind-ok (entries-end (j .0 .0) workers file (j .0 .1)) _ e (j .2) in
     let same : (j .0 .1, b .0) ≡ e = let s = b .2 in cc in
-    subst (λ m. ScheduleFields workers file at (m .0) (m .1)) same (record { count = j .0 .0; counted = j .1; entries = b .1 })
+    subst (λ m. ScheduleFields workers file at (m .0) (m .1)) same
+    (record { count = j .0 .0; counted = j .1; entries = b .1 })
 
 -- something accepted takes a byte at least, and ends within the file
 abbrev pub Takes : ℕ → ℕ → List ℕ → Type 0
@@ -115,7 +127,8 @@ Takes from to file = (from < to) × (to ≤ length file)
 pub levels-take : (file : List ℕ) (at : ℕ) (n : ℕ × ℕ) → levels-at file at ≡ Ok n → Takes at (n .1) file
 levels-take file at n e = number-within file at n (levels-ok file at n e .0)
 
-pub level-takes : (rank parties : ℕ) (file : List ℕ) (at : ℕ) (l : Level × ℕ) → level-at rank parties file at ≡ Ok l → Takes at (l .1) file
+pub level-takes : (rank parties : ℕ) (file : List ℕ) (at : ℕ) (l : Level × ℕ) → level-at rank parties file at ≡ Ok l →
+    Takes at (l .1) file
 level-takes rank parties file at l e =
     let f = level-ok rank parties file at l e in
     let a = number-within file at _ (f .algorithm) in
@@ -131,7 +144,8 @@ script-takes file at s e =
     let h = number-within file (f .at-hold) _ (f .hold .0) in
     (omega arith, h .1)
 
-entries-lie : (count workers : ℕ) (file : List ℕ) (at to : ℕ) → entries-end count workers file at ≡ Ok to → at ≤ length file → (at ≤ to) × (to ≤ length file)
+entries-lie : (count workers : ℕ) (file : List ℕ) (at to : ℕ) → entries-end count workers file at ≡ Ok to →
+    at ≤ length file → (at ≤ to) × (to ≤ length file)
 entries-lie zero workers file at to e before = let same : at ≡ to = cc in (omega arith, omega arith)
 entries-lie (suc count) workers file at to e before =
     let b = bind-ok (entry-at workers file at) _ to e in
@@ -140,7 +154,8 @@ entries-lie (suc count) workers file at to e before =
     (omega arith, m .1)
 
 -- the entries begin after the count
-pub schedule-takes : (workers : ℕ) (file : List ℕ) (at : ℕ) (e : ℕ × ℕ) → schedule-at workers file at ≡ Ok e → (at < e .0) × (e .0 ≤ e .1) × (e .1 ≤ length file)
+pub schedule-takes : (workers : ℕ) (file : List ℕ) (at : ℕ) (e : ℕ × ℕ) → schedule-at workers file at ≡ Ok e →
+    (at < e .0) × (e .0 ≤ e .1) × (e .1 ≤ length file)
 schedule-takes workers file at e h =
     let f = schedule-ok workers file at e h in
     let w = number-within file at _ (f .counted) in

@@ -27,7 +27,8 @@ use Rattle.turn_file.specs.Spelling.{spell, Stands}
 abbrev pub record-spelling : Item → List ℕ
 record-spelling (levels n) = spell n
 record-spelling (level rank l) =
-    spell (algorithm-number (l .algorithm)) ++ (spell (l .«fan_out») ++ cond (eqb rank 0) [] (spell (l .«handoff_limit»)))
+    spell (algorithm-number (l .algorithm)) ++
+    (spell (l .«fan_out») ++ cond (eqb rank 0) [] (spell (l .«handoff_limit»)))
 record-spelling (script worker s) = spell (s .turns) ++ (spell (s .rest) ++ spell (s .hold))
 record-spelling (schedule entries) = spell (length entries) ++ joined spell entries
 
@@ -38,7 +39,8 @@ spelling items = joined record-spelling items
 pub record Level-fits (rank parties : ℕ) (l : Level) : Type 0 where
   pub some : 1 ≤ l .«fan_out»
   pub few : parties * l .«fan_out» ≤ 64
-  pub limit : ((rank ≡ 0) × (l .«handoff_limit» ≡ 0)) ⊎ ((rank ≡ 0 → ⊥) × (1 ≤ l .«handoff_limit») × (l .«handoff_limit» ≤ 65535))
+  pub limit : ((rank ≡ 0) × (l .«handoff_limit» ≡ 0))
+      ⊎ ((rank ≡ 0 → ⊥) × (1 ≤ l .«handoff_limit») × (l .«handoff_limit» ≤ 65535))
 
 pub record Script-fits (s : Script) : Type 0 where
   pub turns : s .turns ≤ 65535
@@ -50,7 +52,8 @@ abbrev pub Comes : Stage → Item → Stage → Type 0
 Comes stage.Levels item after =
     (n : ℕ) × (item ≡ levels n) × (1 ≤ n) × (n ≤ 4) × (after ≡ stage.Level 0 n 1)
 Comes (stage.Level rank count parties) item after =
-    (l : Level) × (item ≡ level rank l) × Level-fits rank parties l × (after ≡ after-level rank count (parties * l .«fan_out»))
+    (l : Level) × (item ≡ level rank l) × Level-fits rank parties l
+    × (after ≡ after-level rank count (parties * l .«fan_out»))
 Comes (stage.Script worker workers) item after =
     (s : Script) × (item ≡ script worker s) × Script-fits s × (after ≡ after-script worker workers)
 Comes (stage.Schedule workers) item after =
@@ -72,7 +75,8 @@ pub record Whole (file : List ℕ) (p : PlanNumbers) : Type 0 where
   pub only : (others : List Item) → In-order stage.Levels others stage.End → file ≡ spelling others → others ≡ records
 
 -- The first fault of a file: the records before it are spelled up to its record, which is refused there.
--- However else records are read from the beginning on, they are some of those records; and the file is the spellings of no records.
+-- However else records are read from the beginning on, they are some of those records; and the file is the spellings
+-- of no records.
 pub record First-fault (file : List ℕ) (fault : FileFault) : Type 0 where
   pub records : List Item
   pub place : ℕ
@@ -80,7 +84,8 @@ pub record First-fault (file : List ℕ) (fault : FileFault) : Type 0 where
   pub ordered : In-order stage.Levels records next
   pub spelled : Stands (spelling records) file 0 place
   pub refused : next-step file place next ≡ Err fault
-  pub stops : (others : List Item) (to : ℕ) (after : Stage) → In-order stage.Levels others after → Stands (spelling others) file 0 to →
+  pub stops : (others : List Item) (to : ℕ) (after : Stage) → In-order stage.Levels others after →
+      Stands (spelling others) file 0 to →
       (more : List Item) × (records ≡ others ++ more)
   pub none : (others : List Item) → In-order stage.Levels others stage.End → file ≡ spelling others → ⊥
 

@@ -14,7 +14,8 @@ use Rattle.turn_file.specs.declared.plan.Algorithm.the-variants.{Ticket}
 use Rattle.turn_file.specs.declared.plan.Level.{Level}
 use Rattle.turn_file.specs.declared.plan.Plan.{Plan}
 use Rattle.turn_file.specs.declared.plan.Script.{Script}
-use Rattle.turn_file.specs.Reading.{Item, levels, level, script, schedule, Stepped, Cursor, open-file, next-from, moved-on}
+use Rattle.turn_file.specs.Reading.{Item, levels, level, script, schedule, Stepped, Cursor, open-file, next-from}
+use Rattle.turn_file.specs.Reading.{moved-on}
 
 -- the numbers of a plan
 pub record PlanNumbers : Type 0 where
@@ -43,11 +44,14 @@ put places xs i x = cond (ltb i places) (set xs i x) xs
 -- a plan with what a record says
 abbrev pub with-item : PlanNumbers → Item → PlanNumbers
 with-item p (levels n) = record { count = n; levels = p .levels; scripts = p .scripts; entries = p .entries }
-with-item p (level rank l) = record { count = p .count; levels = put 4 (p .levels) rank l; scripts = p .scripts; entries = p .entries }
-with-item p (script worker s) = record { count = p .count; levels = p .levels; scripts = put 64 (p .scripts) worker s; entries = p .entries }
+with-item p (level rank l) =
+    record { count = p .count; levels = put 4 (p .levels) rank l; scripts = p .scripts; entries = p .entries }
+with-item p (script worker s) =
+    record { count = p .count; levels = p .levels; scripts = put 64 (p .scripts) worker s; entries = p .entries }
 with-item p (schedule es) = record { count = p .count; levels = p .levels; scripts = p .scripts; entries = es }
 
-abbrev pub on-next : PlanNumbers → Result (Option Stepped) FileFault → (Stepped → Result PlanNumbers FileFault) → Result PlanNumbers FileFault
+abbrev pub on-next : PlanNumbers → Result (Option Stepped) FileFault → (Stepped → Result PlanNumbers FileFault) →
+    Result PlanNumbers FileFault
 on-next p (Ok (Some s)) more = more s
 on-next p (Ok None) more = Ok p
 on-next p (Err f) more = Err f

@@ -48,13 +48,20 @@ between from to file = take (to - from) (drop from file)
 
 abbrev pub step : Item → List ℕ → ℕ → ℕ → Stage → Result Stepped RecordFault
 step item file from to stage =
-    Ok (record { handed = record { item = item; place = from; bytes = between from to file }; next = to; stage = stage })
+    Ok (record {
+      handed = record { item = item; place = from; bytes = between from to file };
+      next = to;
+      stage =
+          stage;
+    })
 
 abbrev pub after-level : ℕ → ℕ → ℕ → Stage
-after-level rank count parties = cond (ltb rank (count - 1)) (stage.Level (rank + 1) count parties) (stage.Script 0 parties)
+after-level rank count parties = cond (ltb rank (count - 1)) (stage.Level (rank + 1) count parties)
+    (stage.Script 0 parties)
 
 abbrev pub after-script : ℕ → ℕ → Stage
-after-script worker workers = cond (ltb worker (workers - 1)) (stage.Script (worker + 1) workers) (stage.Schedule workers)
+after-script worker workers = cond (ltb worker (workers - 1)) (stage.Script (worker + 1) workers)
+    (stage.Schedule workers)
 
 abbrev pub levels-step : List ℕ → ℕ → Result Stepped RecordFault
 levels-step file at = bind (levels-at file at) (λ n. step (levels (n .0)) file at (n .1) (stage.Level 0 (n .0) 1))
@@ -89,8 +96,10 @@ next-step file at stage.End = cond (ltb at (length file)) (Err (TrailingByte at)
 abbrev pub seen-record : Record → Handed
 seen-record (rec.Levels part count) = record { item = levels count; place = part .place; bytes = part .bytes .now }
 seen-record (rec.Level part rank l) = record { item = level rank l; place = part .place; bytes = part .bytes .now }
-seen-record (rec.Script part worker s) = record { item = script worker s; place = part .place; bytes = part .bytes .now }
-seen-record (rec.Schedule part) = record { item = schedule (part .bytes .now); place = part .place; bytes = part .bytes .now }
+seen-record (rec.Script part worker s) =
+    record { item = script worker s; place = part .place; bytes = part .bytes .now }
+seen-record (rec.Schedule part) =
+    record { item = schedule (part .bytes .now); place = part .place; bytes = part .bytes .now }
 
 abbrev pub seen-step : Result Step RecordFault → Result Stepped RecordFault
 seen-step (Ok s) = Ok (record { handed = seen-record (s .record); next = s .next; stage = s .stage })

@@ -26,7 +26,8 @@ abbrev pub number-in : RecordKind → List ℕ → ℕ → Result (ℕ × ℕ) (
 number-in k file at = with-kind k (number-at file at)
 
 -- a number's value is judged only if the number is sound
-abbrev pub judge : {B : Type 0} → Result (ℕ × ℕ) (RecordKind × NumberFault) → (ℕ × ℕ → Result B RecordFault) → Result B RecordFault
+abbrev pub judge : {B : Type 0} → Result (ℕ × ℕ) (RecordKind × NumberFault) → (ℕ × ℕ → Result B RecordFault) →
+    Result B RecordFault
 judge (Ok n) value = value n
 judge (Err f) value = Err (in-record (f .0) (f .1))
 

@@ -6,4 +6,5 @@ use Rattle.turn_file.proofs.field.pass_entries.Given as given
 -- what is left to pass ends where all entries end
 abbrev pub Inv-loop : given.InvT-loop
 Inv-loop l =
-    entries-end (l .count - l .counter) (l .workers) (l .file) (l .next) ≡ entries-end (l .count) (l .workers) (l .file) (l .at)
+    entries-end (l .count - l .counter) (l .workers) (l .file) (l .next) ≡ entries-end (l .count) (l .workers)
+    (l .file) (l .at)

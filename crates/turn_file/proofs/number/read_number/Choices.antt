@@ -7,6 +7,7 @@ use Rattle.turn_file.proofs.number.read_number.Given as given
 
 abbrev pub Inv-loop-left : given.InvT-loop-left
 Inv-loop-left l =
-    (number-at (l .file) (l .at) ≡ behind (l .value) (l .weight) (groups (l .at) (l .left) (l .next) (drop (l .next) (l .file))))
+    (number-at (l .file) (l .at) ≡ behind (l .value) (l .weight)
+    (groups (l .at) (l .left) (l .next) (drop (l .next) (l .file))))
     × (l .value < l .weight)
     × Weighs (l .left) (l .weight)

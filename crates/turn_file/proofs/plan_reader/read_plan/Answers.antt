@@ -9,7 +9,8 @@ use Rattle.std.specs.declared.result.Result.the-variants.{Ok, Err}
 use Rattle.turn_file.specs.Plan.{plan-numbers, plan-of, with-item, judgement, filled}
 use Rattle.turn_file.specs.Reading.{Handed, Stepped, Cursor, cursor-of, next-from, moved-on, seen-record, seen-answer}
 use Rattle.turn_file.proofs.Orders.{read-whole}
-use Rattle.turn_file.proofs.Plans.{Completes, handed-some, handed-none, handed-fault, not-opened, begins, completed, refused, takes, goes-on}
+use Rattle.turn_file.proofs.Plans.{Completes, handed-some, handed-none, handed-fault, not-opened, begins, completed}
+use Rattle.turn_file.proofs.Plans.{refused, takes, goes-on}
 use Rattle.turn_file.proofs.plan_reader.read_plan.Needs as need
 
 pub loop-record-holds : need.loop-record-holds
@@ -19,14 +20,16 @@ pub returns-in-Break-record : need.returns-in-Break-record
 returns-in-Break-record c =
     let p = err-from-errBy (c .from-residual-in-Break-record .result) (c .from-residual-in-Break-record .ensures .1) in
     let f = c .in-Break-record .field-0 .0 in
-    let faulty = handed-fault (next-from (cursor-of (c .loop-record .reader))) f (c .in-Break-record .ensures tt .answer) in
+    let faulty = handed-fault (next-from (cursor-of (c .loop-record .reader))) f
+    (c .in-Break-record .ensures tt .answer) in
     let whole = refused (c .args .file .now) _ _ (plan-of (c .args .file .now)) (c .loop-record .inv) f faulty in
     let answered = p .1 ∙ ap Err (p .2) ∙ sym (ap judgement whole) in
     let kept = sym (ap (filled (plan-numbers (c .args .plan .now))) whole) in
     record {
       answer = answered;
       plan = kept;
-      law = read-whole (c .args .file .now) (plan-numbers (c .args .plan .now)) _ _ (λ i. c .typed .file i .fits) answered kept;
+      law = read-whole (c .args .file .now) (plan-numbers (c .args .plan .now)) _ _
+          (λ i. c .typed .file i .fits) answered kept;
     }
 
 pub returns-in-Break-reader : need.returns-in-Break-reader
@@ -38,16 +41,19 @@ returns-in-Break-reader c =
     record {
       answer = answered;
       plan = kept;
-      law = read-whole (c .args .file .now) (plan-numbers (c .args .plan .now)) _ _ (λ i. c .typed .file i .fits) answered kept;
+      law = read-whole (c .args .file .now) (plan-numbers (c .args .plan .now)) _ _
+          (λ i. c .typed .file i .fits) answered kept;
     }
 
 -- the step that the reader made
-made-step : (c : need.After-enter) → (s : Stepped) × (next-from (cursor-of (c .loop-record .reader)) ≡ Ok (Some s)) × (s .handed ≡ seen-record (c .in-Some .record))
+made-step : (c : need.After-enter) → (s : Stepped) × (next-from (cursor-of (c .loop-record .reader)) ≡ Ok (Some s))
+    × (s .handed ≡ seen-record (c .in-Some .record))
 made-step c =
     handed-some (next-from (cursor-of (c .loop-record .reader))) (seen-record (c .in-Some .record))
     (ap (λ o. seen-answer (Ok o)) (sym (c .in-Some .is)) ∙ c .in-Continue-record .ensures tt .answer)
 
-moved : (c : need.After-enter) → cursor-of (c .next-record .last .self) ≡ moved-on (cursor-of (c .loop-record .reader)) (Ok (Some (made-step c .0)))
+moved : (c : need.After-enter) →
+    cursor-of (c .next-record .last .self) ≡ moved-on (cursor-of (c .loop-record .reader)) (Ok (Some (made-step c .0)))
 moved c = c .next-record .ensures .after ∙ ap (moved-on (cursor-of (c .loop-record .reader))) (made-step c .1)
 
 pub loop-record-less : need.loop-record-less
@@ -60,18 +66,22 @@ pub loop-record-again : need.loop-record-again
 loop-record-again c =
     let file = c .args .file .now in
     let on = goes-on file _ _ _ (c .loop-record .inv) (made-step c .0) (made-step c .1) in
-    let entered = ap (λ (h : Handed). with-item (plan-numbers (c .loop-record .read)) (h .item)) (made-step c .2) ∙ sym (c .enter .ensures) in
+    let entered = ap (λ (h : Handed). with-item (plan-numbers (c .loop-record .read)) (h .item)) (made-step c .2)
+    ∙ sym (c .enter .ensures) in
     subst (λ d. Completes file d (plan-numbers (c .enter .last .self)) (plan-of file)) (sym (moved c))
-    (subst (λ p. Completes file (moved-on (cursor-of (c .loop-record .reader)) (Ok (Some (made-step c .0)))) p (plan-of file)) entered on)
+    (subst (λ p. Completes file (moved-on (cursor-of (c .loop-record .reader)) (Ok (Some (made-step c .0)))) p
+    (plan-of file)) entered on)
 
 pub returns : need.returns
 returns c =
-    let ended = handed-none (next-from (cursor-of (c .loop-record .reader))) (ap (λ o. seen-answer (Ok o)) (sym (c .in-rest .is)) ∙ c .in-Continue-record .ensures tt .answer) in
+    let ended = handed-none (next-from (cursor-of (c .loop-record .reader)))
+    (ap (λ o. seen-answer (Ok o)) (sym (c .in-rest .is)) ∙ c .in-Continue-record .ensures tt .answer) in
     let whole = completed (c .args .file .now) _ _ (plan-of (c .args .file .now)) (c .loop-record .inv) ended in
     let answered = sym (ap judgement whole) in
     let entered = sym (ap (filled (plan-numbers (c .args .plan .now))) whole) in
     record {
       answer = answered;
       plan = entered;
-      law = read-whole (c .args .file .now) (plan-numbers (c .args .plan .now)) _ _ (λ i. c .typed .file i .fits) answered entered;
+      law = read-whole (c .args .file .now) (plan-numbers (c .args .plan .now)) _ _
+          (λ i. c .typed .file i .fits) answered entered;
     }

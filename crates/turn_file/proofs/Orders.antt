@@ -17,6 +17,7 @@ use Rattle.std.specs.declared.result.Result.the-variants.{Ok, Err}
 use Rattle.turn_file.specs.declared.fault.FileFault.{FileFault}
 use Rattle.turn_file.specs.declared.fault.FileFault.the-variants.{TooLong}
 use Rattle.turn_file.specs.declared.fault.RecordFault.{RecordFault}
+use Rattle.turn_file.specs.declared.plan.Plan.{Plan}
 use Rattle.turn_file.specs.declared.step.Stage.{Stage}
 use Rattle.turn_file.specs.declared.step.Stage.the-variants as stage
 use Rattle.turn_file.specs.Fault.{longest-file}
@@ -269,7 +270,7 @@ judged-fault : (x : Result PlanNumbers FileFault) (f : FileFault) → judgement 
 judged-fault (Ok p) f e = absurd (let z : _≡_ {A = ℕ} 0 1 = cc in omega arith)
 judged-fault (Err g) f e = let q : g ≡ f = cc in ap Err q
 
-pub read-whole : (file : List ℕ) (was p : PlanNumbers) (r : Result (Unit {0}) FileFault) → Bytes file →
+pub read-whole : (file : List ℕ) (was : Plan) (p : PlanNumbers) (r : Result (Unit {0}) FileFault) → Bytes file →
     r ≡ judgement (plan-of file) → p ≡ filled was (plan-of file) → Read-whole file r p
 read-whole file was p r each answer plan = record {
   accepted = λ ok.

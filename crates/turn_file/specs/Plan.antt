@@ -14,8 +14,9 @@ use Rattle.turn_file.specs.declared.plan.Algorithm.the-variants.{Ticket}
 use Rattle.turn_file.specs.declared.plan.Level.{Level}
 use Rattle.turn_file.specs.declared.plan.Plan.{Plan}
 use Rattle.turn_file.specs.declared.plan.Script.{Script}
+use Rattle.turn_file.specs.declared.record.Record.{Record}
 use Rattle.turn_file.specs.Reading.{Item, levels, level, script, schedule, Stepped, Cursor, open-file, next-from}
-use Rattle.turn_file.specs.Reading.{moved-on}
+use Rattle.turn_file.specs.Reading.{moved-on, seen-record}
 
 -- the numbers of a plan
 pub record PlanNumbers : Type 0 where
@@ -50,6 +51,9 @@ with-item p (script worker s) =
     record { count = p .count; levels = p .levels; scripts = put 64 (p .scripts) worker s; entries = p .entries }
 with-item p (schedule es) = record { count = p .count; levels = p .levels; scripts = p .scripts; entries = es }
 
+abbrev pub with-record : PlanNumbers → Record → PlanNumbers
+with-record p r = with-item p (seen-record r .item)
+
 abbrev pub on-next : PlanNumbers → Result (Option Stepped) FileFault → (Stepped → Result PlanNumbers FileFault) →
     Result PlanNumbers FileFault
 on-next p (Ok (Some s)) more = more s
@@ -75,6 +79,6 @@ judgement (Ok p) = Ok tt
 judgement (Err f) = Err f
 
 -- a lent plan: filled, or as it was
-abbrev pub filled : PlanNumbers → Result PlanNumbers FileFault → PlanNumbers
+abbrev pub filled : Plan → Result PlanNumbers FileFault → PlanNumbers
 filled was (Ok p) = p
-filled was (Err f) = was
+filled was (Err f) = plan-numbers was

@@ -146,3 +146,7 @@ abbrev pub moved-on : Cursor → Result (Option Stepped) FileFault → Cursor
 moved-on c (Ok (Some s)) = record { file = c .file; place = s .next; stage = s .stage }
 moved-on c (Ok None) = c
 moved-on c (Err f) = c
+
+-- where the reader stands after it was asked for the next record
+abbrev pub moved : Cursor → Cursor
+moved c = moved-on c (next-from c)

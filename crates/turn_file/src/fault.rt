@@ -1,4 +1,5 @@
-// Why a turn file is refused: a fault of a number, of the record that holds the number, or of the file that holds the record.
+// Why a turn file is refused: a fault of a number, of the record that holds the number,
+// or of the file that holds the record.
 ghost use mathlib.Core.Path.{_≡_};
 ghost use Rattle.std.specs.declared.option.Option.the-variants.{Some};
 ghost use Rattle.turn_file.specs.Fault.{in-record, in-file, fault-numbers, fault-line};

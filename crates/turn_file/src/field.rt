@@ -1,8 +1,9 @@
-// The records of a turn file, each a row of numbers. A number is judged as a number, then by its value, before the next is read.
+// Reads the records, each a row of numbers. A number is judged as a number, then by its value,
+// before the next is read.
 ghost use mathlib.Core.Path.{_≡_};
-ghost use Prim.Native.Nat.{_<_, _≤_};
-ghost use lib.ListN.{length};
-ghost use Rattle.turn_file.specs.Record.{number-in, levels-at, limit-at, level-at, script-number-at, script-at, entries-end, schedule-at, algorithm-at, fan-out-at, entry-at};
+ghost use Rattle.turn_file.specs.Record.{number-in, levels-at};
+ghost use Rattle.turn_file.specs.Record.{algorithm-at, fan-out-at, limit-at, level-at};
+ghost use Rattle.turn_file.specs.Record.{script-number-at, script-at, entry-at, entries-end, schedule-at};
 use crate::fault::NumberFault;
 use crate::fault::RecordFault;
 use crate::fault::RecordFaultFromNumber;

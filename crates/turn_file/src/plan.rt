@@ -10,7 +10,7 @@ pub enum Algorithm {
 }
 
 // A level of the stack. Each party of the level above has a lane here, and each lane `fan_out` members.
-// After `handoff_limit` turns in a row a lane gives the upper lock back; the top level has no such limit, and 0 in its place.
+// After `handoff_limit` turns in a row a lane gives the upper lock back; the top level has no limit, and 0 in its place.
 #[derive(Clone, Copy, PartialEq, Eq, Debug)]
 pub struct Level {
     pub algorithm: Algorithm,
@@ -18,7 +18,8 @@ pub struct Level {
     pub handoff_limit: u32,
 }
 
-// What a worker does: so many turns, with so many plays of rest before each, and so many of work while it holds the lock.
+// What a worker does: so many turns, with so many plays of rest before each,
+// and so many of work while it holds the lock.
 #[derive(Clone, Copy, PartialEq, Eq, Debug)]
 pub struct Script {
     pub turns: u32,
@@ -27,7 +28,8 @@ pub struct Script {
 }
 
 // A whole turn file. Of the tables the first `level_count` levels are used, and a script for each worker;
-// the workers are as many as the product of the used levels' fan-outs. The schedule has an entry, a worker, for each play.
+// the workers are as many as the product of the used levels' fan-outs.
+// The schedule has an entry, a worker, for each play.
 #[derive(Clone, Copy, Debug)]
 pub struct Plan<'a> {
     pub level_count: u32,

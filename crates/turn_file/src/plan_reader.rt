@@ -1,8 +1,7 @@
 // Reads a whole turn file into a plan.
 ghost use mathlib.Core.Path.{_≡_};
 ghost use Rattle.turn_file.specs.Order.{Read-whole};
-ghost use Rattle.turn_file.specs.Plan.{plan-numbers, with-item, plan-of, judgement, filled};
-ghost use Rattle.turn_file.specs.Reading.{seen-record};
+ghost use Rattle.turn_file.specs.Plan.{plan-numbers, with-record, plan-of, judgement, filled};
 use crate::fault::FileFault;
 use crate::limits::MOST_LEVELS;
 use crate::limits::MOST_WORKERS;
@@ -13,7 +12,7 @@ use crate::record::Record;
 impl<'a> Plan<'a> {
     // Enters what a record says.
     fn enter(&mut self, record: Record<'a>)
-        ensures { λ _. ⌜ plan-numbers (now (self .exit)) ≡ with-item (plan-numbers (now (self .entry))) (seen-record («record» .entry) .item) ⌝ }
+        ensures { λ _. ⌜ plan-numbers (now (self .exit)) ≡ with-record (plan-numbers (now (self .entry))) («record» .entry) ⌝ }
     {
         match record {
             Record::Levels { count, .. } => self.level_count = count,
@@ -35,7 +34,7 @@ impl<'a> Plan<'a> {
 // Reads the file into `plan`, the unused part of its tables blank. A refusal leaves the plan as it was.
 pub fn read_plan<'a>(file: &'a [u8], plan: &mut Plan<'a>) -> Result<(), FileFault>
     ensures answer { λ r. ⌜ r ≡ judgement (plan-of (now (file .entry))) ⌝ }
-    ensures plan { λ _. ⌜ plan-numbers (now (plan .exit)) ≡ filled (plan-numbers (now (plan .entry))) (plan-of (now (file .entry))) ⌝ }
+    ensures plan { λ _. ⌜ plan-numbers (now (plan .exit)) ≡ filled (now (plan .entry)) (plan-of (now (file .entry))) ⌝ }
     ensures law { λ r. ⌜ Read-whole (now (file .entry)) r (plan-numbers (now (plan .exit))) ⌝ }
 {
     let mut reader = Reader::new(file)?;

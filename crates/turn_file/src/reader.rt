@@ -1,6 +1,6 @@
 // Hands out the records of a turn file, one at a time.
 ghost use mathlib.Core.Path.{_≡_};
-ghost use Rattle.turn_file.specs.Reading.{opened, open-file, seen-answer, handed-out, next-from, cursor-of, moved-on};
+ghost use Rattle.turn_file.specs.Reading.{opened, open-file, seen-answer, handed-out, next-from, cursor-of, moved};
 use crate::fault::FileFault;
 use crate::limits::LONGEST_FILE;
 use crate::record::Record;
@@ -33,7 +33,7 @@ impl<'a> Reader<'a> {
     // The next record, or none once the file has ended as it should. A fault leaves the reader where it is.
     pub fn next_record(&mut self) -> Result<Option<Record<'a>>, FileFault>
         ensures answer { λ r. ⌜ seen-answer r ≡ handed-out (next-from (cursor-of (now (self .entry)))) ⌝ }
-        ensures after { λ _. ⌜ cursor-of (now (self .exit)) ≡ moved-on (cursor-of (now (self .entry))) (next-from (cursor-of (now (self .entry)))) ⌝ }
+        ensures after { λ _. ⌜ cursor-of (now (self .exit)) ≡ moved (cursor-of (now (self .entry))) ⌝ }
     {
         match step_next(self.file, self.place, self.stage)? {
             Some(step) => {

@@ -24,11 +24,11 @@ returns-in-Break-record c =
     (c .in-Break-record .ensures tt .answer) in
     let whole = refused (c .args .file .now) _ _ (plan-of (c .args .file .now)) (c .loop-record .inv) f faulty in
     let answered = p .1 ∙ ap Err (p .2) ∙ sym (ap judgement whole) in
-    let kept = sym (ap (filled (plan-numbers (c .args .plan .now))) whole) in
+    let kept = sym (ap (filled (c .args .plan .now)) whole) in
     record {
       answer = answered;
       plan = kept;
-      law = read-whole (c .args .file .now) (plan-numbers (c .args .plan .now)) _ _
+      law = read-whole (c .args .file .now) (c .args .plan .now) _ _
           (λ i. c .typed .file i .fits) answered kept;
     }
 
@@ -37,11 +37,11 @@ returns-in-Break-reader c =
     let p = err-from-errBy (c .from-residual .result) (c .from-residual .ensures .1) in
     let whole = not-opened (c .args .file .now) (c .in-Break-reader .field-0 .0) (c .in-Break-reader .ensures tt) in
     let answered = p .1 ∙ ap Err (p .2) ∙ sym (ap judgement whole) in
-    let kept = sym (ap (filled (plan-numbers (c .args .plan .now))) whole) in
+    let kept = sym (ap (filled (c .args .plan .now)) whole) in
     record {
       answer = answered;
       plan = kept;
-      law = read-whole (c .args .file .now) (plan-numbers (c .args .plan .now)) _ _
+      law = read-whole (c .args .file .now) (c .args .plan .now) _ _
           (λ i. c .typed .file i .fits) answered kept;
     }
 
@@ -78,10 +78,10 @@ returns c =
     (ap (λ o. seen-answer (Ok o)) (sym (c .in-rest .is)) ∙ c .in-Continue-record .ensures tt .answer) in
     let whole = completed (c .args .file .now) _ _ (plan-of (c .args .file .now)) (c .loop-record .inv) ended in
     let answered = sym (ap judgement whole) in
-    let entered = sym (ap (filled (plan-numbers (c .args .plan .now))) whole) in
+    let entered = sym (ap (filled (c .args .plan .now)) whole) in
     record {
       answer = answered;
       plan = entered;
-      law = read-whole (c .args .file .now) (plan-numbers (c .args .plan .now)) _ _
+      law = read-whole (c .args .file .now) (c .args .plan .now) _ _
           (λ i. c .typed .file i .fits) answered entered;
     }

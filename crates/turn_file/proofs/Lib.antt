@@ -1,6 +1,7 @@
 pub mod Complete
 pub mod Entries
 pub mod Fields
+pub mod Fronts
 pub mod Groups
 pub mod Orders
 pub mod Plans

@@ -1,9 +1,10 @@
 -- The plan that a file says.
-use Prim.Native.Nat.{ℕ, zero, suc}
+use Prim.Native.Nat.{ℕ, zero, suc, _-_, _*_, _^_, min}
 use mathlib.Core.Bool.{cond}
 use mathlib.Core.List.{List, [], _∷_}
 use lib.Dec.{ltb}
-use lib.ListN.{length, set, replicate}
+use lib.ListN.{length, take, set, replicate}
+use Rattle.std.specs.Iters.{folded}
 use Rattle.std.specs.declared.option.Option.{Option}
 use Rattle.std.specs.declared.option.Option.the-variants.{Some, None}
 use Rattle.std.specs.declared.result.Result.{Result}
@@ -37,6 +38,20 @@ no-script = record { turns = 0; rest = 0; hold = 0 }
 
 abbrev pub blank-plan : PlanNumbers
 blank-plan = record { count = 0; levels = replicate 4 no-level; scripts = replicate 64 no-script; entries = [] }
+
+-- the lanes of the level below a level with so many lanes, at most what 32 bits hold
+abbrev pub lanes-below : ℕ → Level → ℕ
+lanes-below lanes l = min (lanes * l .«fan_out») (2 ^ 32 - 1)
+
+-- the part of a plan that is used
+abbrev pub used-levels : PlanNumbers → List Level
+used-levels p = take (p .count) (p .levels)
+
+abbrev pub workers-of : PlanNumbers → ℕ
+workers-of p = folded lanes-below 1 (used-levels p)
+
+abbrev pub used-scripts : PlanNumbers → List Script
+used-scripts p = take (workers-of p) (p .scripts)
 
 -- a table of so many places, with a value at one of them
 abbrev pub put : {X : Type 0} → ℕ → List X → ℕ → X → List X

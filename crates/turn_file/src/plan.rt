@@ -1,6 +1,6 @@
 // What a turn file says: the stack of locks, each worker's script, and the order in which the workers ran.
 ghost use mathlib.Core.Path.{_≡_};
-ghost use Rattle.turn_file.specs.Plan.{plan-numbers, blank-plan};
+ghost use Rattle.turn_file.specs.Plan.{plan-numbers, blank-plan, lanes-below, used-levels, workers-of, used-scripts};
 
 // How the locks of a level work.
 #[derive(Clone, Copy, PartialEq, Eq, Debug)]
@@ -50,6 +50,15 @@ const NO_SCRIPT: Script = Script {
     hold: 0,
 };
 
+impl Level {
+    // The lanes of the level below, where this one has so many lanes; at most what 32 bits hold.
+    pub fn lanes_below(&self, lanes: u32) -> u32
+        ensures { λ r. ⌜ r ≡ lanes-below lanes (now (self .entry)) ⌝ }
+    {
+        lanes.saturating_mul(self.fan_out)
+    }
+}
+
 impl<'a> Plan<'a> {
     // A plan that uses nothing.
     pub fn blank() -> Plan<'a>
@@ -61,5 +70,32 @@ impl<'a> Plan<'a> {
             scripts: [NO_SCRIPT; 64],
             schedule: &[],
         }
+    }
+
+    // The levels that the plan uses, the top level first.
+    pub fn used_levels(&self) -> &[Level]
+        ensures { λ r. ⌜ now r ≡ used-levels (plan-numbers (now (self .entry))) ⌝ }
+    {
+        let count = self.levels.len().min(self.level_count as usize);
+        &self.levels[0..count]
+    }
+
+    // How many workers there are: as many as the level below the last would have lanes.
+    pub fn workers(&self) -> u32
+        ensures { λ r. ⌜ r ≡ workers-of (plan-numbers (now (self .entry))) ⌝ }
+    {
+        let mut workers = 1;
+        for level in self.used_levels() {
+            workers = level.lanes_below(workers);
+        }
+        workers
+    }
+
+    // The workers' scripts.
+    pub fn used_scripts(&self) -> &[Script]
+        ensures { λ r. ⌜ now r ≡ used-scripts (plan-numbers (now (self .entry))) ⌝ }
+    {
+        let count = self.scripts.len().min(self.workers() as usize);
+        &self.scripts[0..count]
     }
 }

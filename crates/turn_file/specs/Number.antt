@@ -1,4 +1,4 @@
--- How a number is spelled, and what a reader finds at a place.
+-- The number that a reader finds at a place of the file.
 use Prim.Native.Nat.{ℕ, zero, suc, _+_, _*_, _-_, _/_, _%_}
 use mathlib.Core.Bool.{Bool, true, false, cond, _&&_}
 use mathlib.Core.List.{List, [], _∷_}

@@ -30,6 +30,7 @@ abbrev pub plan-numbers : Plan → PlanNumbers
 plan-numbers p =
     record { count = p .«level_count»; levels = p .levels; scripts = p .scripts; entries = p .schedule .now }
 
+-- what stands in the unused part of a table
 abbrev pub no-level : Level
 no-level = record { algorithm = Ticket; «fan_out» = 0; «handoff_limit» = 0 }
 
@@ -66,9 +67,11 @@ with-item p (script worker s) =
     record { count = p .count; levels = p .levels; scripts = put 64 (p .scripts) worker s; entries = p .entries }
 with-item p (schedule es) = record { count = p .count; levels = p .levels; scripts = p .scripts; entries = es }
 
+-- the same, of a record of the code
 abbrev pub with-record : PlanNumbers → Record → PlanNumbers
 with-record p r = with-item p (seen-record r .item)
 
+-- the plan is whole where no record is left
 abbrev pub on-next : PlanNumbers → Result (Option Stepped) FileFault → (Stepped → Result PlanNumbers FileFault) →
     Result PlanNumbers FileFault
 on-next p (Ok (Some s)) more = more s
@@ -89,6 +92,7 @@ on-open (Err f) more = Err f
 abbrev pub plan-of : List ℕ → Result PlanNumbers FileFault
 plan-of file = on-open (open-file file) (λ c. plan-from (suc (length file)) c blank-plan)
 
+-- what the caller is told of it
 abbrev pub judgement : Result PlanNumbers FileFault → Result (Unit {0}) FileFault
 judgement (Ok p) = Ok tt
 judgement (Err f) = Err f

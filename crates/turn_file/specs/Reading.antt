@@ -46,22 +46,23 @@ pub record Stepped : Type 0 where
 abbrev pub between : ℕ → ℕ → List ℕ → List ℕ
 between from to file = take (to - from) (drop from file)
 
+-- the step past a record
 abbrev pub step : Item → List ℕ → ℕ → ℕ → Stage → Result Stepped RecordFault
-step item file from to stage =
+step item file from to after =
     Ok (record {
       handed = record { item = item; place = from; bytes = between from to file };
       next = to;
-      stage =
-          stage;
+      stage = after;
     })
 
+-- what comes after a level or a script: another, or the first of the next kind
 abbrev pub after-level : ℕ → ℕ → ℕ → Stage
-after-level rank count parties = cond (ltb rank (count - 1)) (stage.Level (rank + 1) count parties)
-    (stage.Script 0 parties)
+after-level rank count parties =
+    cond (ltb rank (count - 1)) (stage.Level (rank + 1) count parties) (stage.Script 0 parties)
 
 abbrev pub after-script : ℕ → ℕ → Stage
-after-script worker workers = cond (ltb worker (workers - 1)) (stage.Script (worker + 1) workers)
-    (stage.Schedule workers)
+after-script worker workers =
+    cond (ltb worker (workers - 1)) (stage.Script (worker + 1) workers) (stage.Schedule workers)
 
 abbrev pub levels-step : List ℕ → ℕ → Result Stepped RecordFault
 levels-step file at = bind (levels-at file at) (λ n. step (levels (n .0)) file at (n .1) (stage.Level 0 (n .0) 1))
@@ -80,6 +81,7 @@ abbrev pub schedule-step : ℕ → List ℕ → ℕ → Result Stepped RecordFau
 schedule-step workers file at =
     bind (schedule-at workers file at) (λ e. step (schedule (between (e .0) (e .1) file)) file (e .0) (e .1) stage.End)
 
+-- a record's fault is raised to the file
 abbrev pub in-order : Result Stepped RecordFault → Result (Option Stepped) FileFault
 in-order (Ok s) = Ok (Some s)
 in-order (Err f) = Err (in-file f)
@@ -101,6 +103,7 @@ seen-record (rec.Script part worker s) =
 seen-record (rec.Schedule part) =
     record { item = schedule (part .bytes .now); place = part .place; bytes = part .bytes .now }
 
+-- what the answers of the code say
 abbrev pub seen-step : Result Step RecordFault → Result Stepped RecordFault
 seen-step (Ok s) = Ok (record { handed = seen-record (s .record); next = s .next; stage = s .stage })
 seen-step (Err f) = Err f
@@ -128,6 +131,7 @@ abbrev pub open-file : List ℕ → Result Cursor FileFault
 open-file file =
     cond (ltb longest-file (length file)) (Err TooLong) (Ok (record { file = file; place = 0; stage = stage.Levels }))
 
+-- the next step from where a reader stands
 abbrev pub next-from : Cursor → Result (Option Stepped) FileFault
 next-from c = next-step (c .file) (c .place) (c .stage)
 
@@ -136,6 +140,7 @@ seen-answer (Ok (Some r)) = Ok (Some (seen-record r))
 seen-answer (Ok None) = Ok None
 seen-answer (Err f) = Err f
 
+-- what is handed out of a step
 abbrev pub handed-out : Result (Option Stepped) FileFault → Result (Option Handed) FileFault
 handed-out (Ok (Some s)) = Ok (Some (s .handed))
 handed-out (Ok None) = Ok None

@@ -17,6 +17,7 @@ use Rattle.turn_file.specs.declared.plan.Script.{Script}
 use Rattle.turn_file.specs.Fault.{in-record}
 use Rattle.turn_file.specs.Number.{number-at}
 
+-- a number's fault goes with the kind of the record that the number is of
 abbrev pub with-kind : RecordKind → Result (ℕ × ℕ) NumberFault → Result (ℕ × ℕ) (RecordKind × NumberFault)
 with-kind k (Ok n) = Ok n
 with-kind k (Err f) = Err (k, f)
@@ -47,6 +48,7 @@ bad-levels n = ltb n 1 || ltb 4 n
 abbrev pub levels-at : List ℕ → ℕ → Result (ℕ × ℕ) RecordFault
 levels-at file at = field-at kind.Levels bad-levels (fault.LevelCount at) file at
 
+-- the number of each algorithm
 abbrev pub algorithm-number : Algorithm → ℕ
 algorithm-number Ticket = 1
 algorithm-number Mcs = 2

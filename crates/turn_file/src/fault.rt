@@ -20,8 +20,8 @@ pub enum RecordKind {
 }
 
 // What a fault lies in.
-#[derive(Clone, Copy, PartialEq, Eq, Debug)]
-pub enum Layer {
+#[derive(Clone, Copy)]
+enum Layer {
     Number,
     Record,
     File,

@@ -13,6 +13,7 @@ pub fn read_number(file: &[u8], at: usize) -> Result<(u32, usize), NumberFault>
     let mut value: u32 = 0;
     let mut weight: u32 = 1;
     let mut next = at;
+    // `left` groups may follow this one: 4 after the first, none after the fifth.
     for left in (0..5u8).rev() {
         if next >= file.len() {
             return Err(NumberFault::Ends { place: at });
@@ -31,6 +32,7 @@ pub fn read_number(file: &[u8], at: usize) -> Result<(u32, usize), NumberFault>
         weight *= 128;
         next += 1;
     }
+    // Not reached: a fifth byte ends the number, or is refused.
     Err(NumberFault::TooLarge { place: at })
 }
 

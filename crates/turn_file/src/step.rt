@@ -15,7 +15,7 @@ use crate::record::Part;
 use crate::record::Record;
 
 // Which record comes next. `parties` is the product of the fan-outs so far.
-#[derive(Clone, Copy, PartialEq, Eq, Debug)]
+#[derive(Clone, Copy)]
 pub(crate) enum Stage {
     Levels,
     Level { rank: u32, count: u32, parties: u32 },

@@ -1,3 +1,4 @@
+pub mod Accepted
 pub mod Complete
 pub mod Entries
 pub mod Fields
@@ -5,6 +6,7 @@ pub mod Fronts
 pub mod Groups
 pub mod Orders
 pub mod Plans
+pub mod Refused
 pub mod Sound
 pub mod Spelled
 pub mod Steps

@@ -28,6 +28,7 @@ use Rattle.turn_file.specs.Reading.{schedule-step, next-step, next-from, moved
 use Rattle.turn_file.specs.Spelling.{Bytes, Stands}
 use Rattle.turn_file.proofs.Complete.{next-complete}
 use Rattle.turn_file.proofs.Plans.{plan-ends, plan-refused, plan-goes-on}
+use Rattle.turn_file.proofs.Refused.{next-lies}
 use Rattle.turn_file.proofs.Sound.{Few, next-sound}
 use Rattle.turn_file.proofs.Spelled.{stands-none, stands-both, stands-split}
 use Rattle.turn_file.proofs.Steps.{next-takes, no-step}
@@ -172,7 +173,7 @@ plan-stopped : (most : ℕ) (c : Cursor) (p : PlanNumbers) (f : FileFault) → c
     length (c .file) - c .place < most →
     plan-from most c p ≡ Err f →
     (items : List Item) × (at : ℕ) × (g : Stage) × Ran (c .file) (c .place) (c .stage) items at g
-    × (next-step (c .file) at g ≡ Err f)
+    × (next-step (c .file) at g ≡ Err f) × (at ≤ length (c .file))
 plan-stopped zero c p f within enough e = absurd (omega arith)
 plan-stopped (suc most) c p f within enough e =
     elim (step-is (next-from c)) [
@@ -180,12 +181,12 @@ plan-stopped (suc most) c p f within enough e =
           let t = next-takes (c .file) (c .place) (c .stage) (k .0) (k .1) in
           let m = plan-stopped most (moved-on c (Ok (Some (k .0)))) (with-item p (k .0 .handed .item)) f (t .1)
           (omega arith) (sym (plan-goes-on c p most (k .0) (k .1)) ∙ e) in
-          (k .0 .handed .item ∷ m .0, m .1, m .2, (k .0, k .1, refl, m .3), m .4)
+          (k .0 .handed .item ∷ m .0, m .1, m .2, (k .0, k .1, refl, m .3), m .4, m .5)
       | inr (inl k) ↦ absurd
           (let s = sym (plan-ends c p (suc most) (omega arith) k) ∙ e in let z : _≡_ {A = ℕ} 0 1 = cc in omega arith)
       | inr (inr k) ↦
           let same : k .0 ≡ f = let s = sym (plan-refused c p (suc most) (k .0) (omega arith) (k .1)) ∙ e in cc in
-          ([], c .place, c .stage, (refl, refl), k .1 ∙ ap Err same)
+          ([], c .place, c .stage, (refl, refl), k .1 ∙ ap Err same, within)
     ]
 
 abbrev start : List ℕ → Cursor
@@ -241,6 +242,7 @@ module _ (file : List ℕ) (each : Bytes file) (short : length file ≤ longest-
         ordered = k .0;
         spelled = k .1;
         refused = r .4;
+        lies = next-lies file (r .1) (r .2) f (r .5) (r .4);
         stops = λ others to after order spelled.
             let q = ran-complete file each 0 stage.Levels others to after tt order spelled in
             let m = before-fault file 0 stage.Levels (r .0) (r .1) (r .2) f (r .3) (r .4) others to after q in

@@ -28,8 +28,8 @@ use Rattle.turn_file.specs.Spelling.{spell, Bytes, Stands}
 use Rattle.turn_file.proofs.Fields.{bind-ok, fan-out-fits}
 use Rattle.turn_file.proofs.Spelled.{number-spelled, spell-short, stands-none, stands-both}
 use Rattle.turn_file.proofs.Steps.{in-order-ok, of-step, no-step}
-use Rattle.turn_file.proofs.Within.{limit-ok, LevelFields, level-ok, ScriptFields, script-ok, levels-ok, entry-ok}
-use Rattle.turn_file.proofs.Within.{ScheduleFields, schedule-ok}
+use Rattle.turn_file.proofs.Accepted.{limit-ok, LevelFields, level-ok, ScriptFields, script-ok, levels-ok, entry-ok}
+use Rattle.turn_file.proofs.Accepted.{ScheduleFields, schedule-ok}
 
 module _ (file : List ℕ) (each : Bytes file) where
   limit-sound : (rank at : ℕ) (n : ℕ × ℕ) → limit-at rank file at ≡ Ok n →

@@ -17,7 +17,7 @@ use Rattle.turn_file.specs.declared.plan.Level.{Level}
 use Rattle.turn_file.specs.declared.plan.Script.{Script}
 use Rattle.turn_file.specs.declared.step.Stage.{Stage}
 use Rattle.turn_file.specs.declared.step.Stage.the-variants as stage
-use Rattle.turn_file.specs.Fault.{longest-file}
+use Rattle.turn_file.specs.Fault.{longest-file, fault-place}
 use Rattle.turn_file.specs.Plan.{PlanNumbers, with-item, blank-plan}
 use Rattle.turn_file.specs.Reading.{Item, levels, level, script, schedule, after-level, after-script, next-step}
 use Rattle.turn_file.specs.Record.{algorithm-number}
@@ -74,9 +74,9 @@ pub record Whole (file : List ℕ) (p : PlanNumbers) : Type 0 where
   pub says : p ≡ folded with-item blank-plan records
   pub only : (others : List Item) → In-order stage.Levels others stage.End → file ≡ spelling others → others ≡ records
 
--- The first fault of a file: the records before it are spelled up to its record, which is refused there.
--- However else records are read from the beginning on, they are some of those records; and the file is the spellings
--- of no records.
+-- The first fault of a file: the records before it are spelled from the beginning up to a place, where the next record
+-- is refused, and the fault lies in that record. However else records are read from the beginning on, they are
+-- some of those; and the file is not the spellings of any records.
 pub record First-fault (file : List ℕ) (fault : FileFault) : Type 0 where
   pub records : List Item
   pub place : ℕ
@@ -84,6 +84,7 @@ pub record First-fault (file : List ℕ) (fault : FileFault) : Type 0 where
   pub ordered : In-order stage.Levels records next
   pub spelled : Stands (spelling records) file 0 place
   pub refused : next-step file place next ≡ Err fault
+  pub lies : (place ≤ fault-place fault) × (fault-place fault ≤ length file)
   pub stops : (others : List Item) (to : ℕ) (after : Stage) → In-order stage.Levels others after →
       Stands (spelling others) file 0 to →
       (more : List Item) × (records ≡ others ++ more)

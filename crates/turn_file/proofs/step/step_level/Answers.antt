@@ -1,7 +1,8 @@
 use mathlib.Core.Path.{sym, _∙_}
 use native.Mathlib.Omega.{arith}
 use Rattle.turn_file.proofs.Fields.{fan-out-fits}
-use Rattle.turn_file.proofs.Within.{level-ok, level-takes}
+use Rattle.turn_file.proofs.Accepted.{level-ok}
+use Rattle.turn_file.proofs.Within.{level-takes}
 use Rattle.turn_file.proofs.step.step_level.Needs as need
 
 pub cut-part-requires : need.cut-part-requires

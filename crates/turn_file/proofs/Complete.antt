@@ -1,19 +1,19 @@
 -- A record that may come is handed out where its spelling stands.
 use Prim.Native.Nat.{ℕ, zero, suc, _+_, _*_, _-_, _^_, _≤_, _<_}
 use mathlib.Core.Path.{_≡_, refl, sym, ap, subst, _∙_}
-use mathlib.Core.Bool.{Bool, true, false, cond, _||_}
-use mathlib.Core.List.{List, [], _∷_, _++_}
+use mathlib.Core.Bool.{true, false, cond}
+use mathlib.Core.List.{List, [], _∷_}
 use mathlib.Core.Logic.{_⊎_, inl, inr}
 use native.Mathlib.Nat.{suc-mul}
 use native.Mathlib.Omega.{arith}
-use lib.Dec.{eqb, ltb}
+use lib.Dec.{eqb}
 use lib.ListN.{length}
-use Rattle.std.proofs.shelf.Ways.{tells, eqb-tells}
+use Rattle.std.proofs.shelf.Ways.{tells}
 use Rattle.std.specs.Joined.{joined}
 use Rattle.std.specs.Vec.{Every}
 use Rattle.std.specs.declared.option.Option.the-variants.{Some}
 use Rattle.std.specs.declared.result.Result.{Result}
-use Rattle.std.specs.declared.result.Result.the-variants.{Ok, Err}
+use Rattle.std.specs.declared.result.Result.the-variants.{Ok}
 use Rattle.turn_file.specs.declared.fault.RecordFault.{RecordFault}
 use Rattle.turn_file.specs.declared.fault.RecordFault.the-variants as fault
 use Rattle.turn_file.specs.declared.fault.RecordKind.the-variants as kind
@@ -23,13 +23,11 @@ use Rattle.turn_file.specs.declared.plan.Level.{Level}
 use Rattle.turn_file.specs.declared.plan.Script.{Script}
 use Rattle.turn_file.specs.declared.step.Stage.{Stage}
 use Rattle.turn_file.specs.declared.step.Stage.the-variants as stage
-use Rattle.turn_file.specs.Number.{number-at}
 use Rattle.turn_file.specs.Order.{record-spelling, Level-fits, Script-fits, Comes}
-use Rattle.turn_file.specs.Reading.{Item, levels, level, script, schedule, Stepped, between, in-order, step}
-use Rattle.turn_file.specs.Reading.{after-level, after-script, next-step}
-use Rattle.turn_file.specs.Record.{bind, judge, with-kind, bad-levels, levels-at, algorithm-number, algorithm-at}
+use Rattle.turn_file.specs.Reading.{Item, level, script, schedule, Stepped, between, in-order, next-step}
+use Rattle.turn_file.specs.Record.{bind, judge, with-kind, bad-levels, levels-at, algorithm-number}
 use Rattle.turn_file.specs.Record.{bad-fan-out, fan-out-at, bad-limit, limit-at, level-at, bad-script-number}
-use Rattle.turn_file.specs.Record.{script-number-at, script-at, bad-entry, entry-at, entries-end, schedule-at}
+use Rattle.turn_file.specs.Record.{script-number-at, script-at, bad-entry, entries-end, schedule-at}
 use Rattle.turn_file.specs.Spelling.{spell, Stands}
 use Rattle.turn_file.proofs.Fields.{field-is, algorithm-is}
 use Rattle.turn_file.proofs.Sound.{Few, entries-short, stands-cut}

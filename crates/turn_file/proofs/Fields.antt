@@ -1,11 +1,9 @@
 -- What an accepted field says: which number stands there, and that its value fits.
-use Prim.Native.Nat.{ℕ, zero, suc, _+_, _*_, _-_, _≤_, _<_}
+use Prim.Native.Nat.{ℕ, _*_, _-_, _≤_}
 use mathlib.Core.Path.{_≡_, refl, sym, ap, _∙_}
-use mathlib.Core.Bool.{Bool, true, false, cond, _||_}
+use mathlib.Core.Bool.{Bool, true, false, cond}
 use mathlib.Core.List.{List}
-use mathlib.Core.Logic.{_⊎_, inl, inr}
 use native.Mathlib.Omega.{arith}
-use lib.Dec.{ltb, eqb}
 use Rattle.std.proofs.shelf.Ways.{tells}
 use Rattle.std.specs.declared.result.Result.{Result}
 use Rattle.std.specs.declared.result.Result.the-variants.{Ok, Err}
@@ -17,9 +15,8 @@ use Rattle.turn_file.specs.declared.fault.RecordKind.the-variants as kind
 use Rattle.turn_file.specs.declared.plan.Algorithm.{Algorithm}
 use Rattle.turn_file.specs.declared.plan.Algorithm.the-variants.{Ticket, Mcs}
 use Rattle.turn_file.specs.Number.{number-at}
-use Rattle.turn_file.specs.Record.{bind, judge, with-kind, number-in, field-at, levels-at, algorithm-number}
-use Rattle.turn_file.specs.Record.{algorithm-of, algorithm-at, bad-fan-out, fan-out-at, limit-at, script-number-at}
-use Rattle.turn_file.specs.Record.{entry-at}
+use Rattle.turn_file.specs.Record.{bind, judge, with-kind, field-at, algorithm-number}
+use Rattle.turn_file.specs.Record.{algorithm-of, algorithm-at, bad-fan-out}
 
 -- what was read first, and what came of it
 pub bind-ok : {A B : Type 0} (r : Result A RecordFault) (next : A → Result B RecordFault) (b : B) →

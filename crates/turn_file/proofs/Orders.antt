@@ -6,7 +6,7 @@ use mathlib.Core.List.{List, [], _∷_, _++_}
 use mathlib.Core.Logic.{_⊎_, inl, inr}
 use native.Mathlib.Omega.{arith}
 use lib.Dec.{ltb}
-use lib.ListN.{length, drop}
+use lib.ListN.{length}
 use Rattle.std.proofs.shelf.Lists.{append-nil, drop-all}
 use Rattle.std.proofs.shelf.Tests.{cases-lt, lt-ltb, le-ltb, ltb-false}
 use Rattle.std.specs.Iters.{folded}
@@ -24,7 +24,7 @@ use Rattle.turn_file.specs.Fault.{longest-file}
 use Rattle.turn_file.specs.Order.{record-spelling, spelling, Comes, In-order, Whole, First-fault, Read-whole}
 use Rattle.turn_file.specs.Plan.{PlanNumbers, with-item, blank-plan, plan-from, plan-of, on-open, judgement, filled}
 use Rattle.turn_file.specs.Reading.{Item, Stepped, Cursor, in-order, levels-step, level-step, script-step}
-use Rattle.turn_file.specs.Reading.{schedule-step, next-step, next-from, moved-on, open-file}
+use Rattle.turn_file.specs.Reading.{schedule-step, next-step, next-from, moved-on}
 use Rattle.turn_file.specs.Spelling.{Bytes, Stands}
 use Rattle.turn_file.proofs.Complete.{next-complete}
 use Rattle.turn_file.proofs.Plans.{plan-ends, plan-refused, plan-goes-on}

@@ -9,7 +9,7 @@ use native.Mathlib.Omega.{arith}
 use lib.Dec.{eqb, ltb}
 use lib.ListN.{length, take, drop}
 use Rattle.std.proofs.shelf.Lists.{take-at}
-use Rattle.std.proofs.shelf.Ways.{tells, eqb-tells}
+use Rattle.std.proofs.shelf.Ways.{tells}
 use Rattle.std.specs.Joined.{joined}
 use Rattle.std.specs.Vec.{Every}
 use Rattle.std.specs.declared.option.Option.the-variants.{Some}
@@ -18,12 +18,11 @@ use Rattle.turn_file.specs.declared.plan.Level.{Level}
 use Rattle.turn_file.specs.declared.plan.Script.{Script}
 use Rattle.turn_file.specs.declared.step.Stage.{Stage}
 use Rattle.turn_file.specs.declared.step.Stage.the-variants as stage
-use Rattle.turn_file.specs.Number.{number-at}
 use Rattle.turn_file.specs.Order.{record-spelling, Level-fits, Script-fits, Comes}
-use Rattle.turn_file.specs.Reading.{levels, level, script, schedule, Stepped, between, after-level, after-script}
+use Rattle.turn_file.specs.Reading.{level, script, schedule, Stepped, between, after-level, after-script}
 use Rattle.turn_file.specs.Reading.{levels-step, level-step, script-step, schedule-step, next-step}
-use Rattle.turn_file.specs.Record.{bad-levels, limit-at, bad-limit, levels-at, level-at, bad-script-number, script-at}
-use Rattle.turn_file.specs.Record.{bad-entry, entry-at, entries-end, schedule-at}
+use Rattle.turn_file.specs.Record.{limit-at, levels-at, level-at, bad-script-number, script-at}
+use Rattle.turn_file.specs.Record.{entry-at, entries-end, schedule-at}
 use Rattle.turn_file.specs.Spelling.{spell, Bytes, Stands}
 use Rattle.turn_file.proofs.Fields.{bind-ok, fan-out-fits}
 use Rattle.turn_file.proofs.Spelled.{number-spelled, spell-short, stands-none, stands-both}

@@ -8,9 +8,7 @@ use lib.ListN.{length}
 use Rattle.std.specs.declared.result.Result.the-variants.{Ok}
 use Rattle.turn_file.specs.declared.plan.Level.{Level}
 use Rattle.turn_file.specs.declared.plan.Script.{Script}
-use Rattle.turn_file.specs.Record.{levels-at}
-use Rattle.turn_file.specs.Record.{limit-at, level-at}
-use Rattle.turn_file.specs.Record.{script-at, entry-at, entries-end, schedule-at}
+use Rattle.turn_file.specs.Record.{levels-at, limit-at, level-at, script-at, entry-at, entries-end, schedule-at}
 use Rattle.turn_file.proofs.Fields.{bind-ok}
 use Rattle.turn_file.proofs.Spelled.{number-within}
 use Rattle.turn_file.proofs.Accepted.{limit-ok, level-ok, script-ok, levels-ok, entry-ok, schedule-ok}

@@ -1,7 +1,7 @@
 -- The plan that a file says.
 use Prim.Native.Nat.{ℕ, zero, suc, _-_, _*_, _^_, min}
 use mathlib.Core.Bool.{cond}
-use mathlib.Core.List.{List, [], _∷_}
+use mathlib.Core.List.{List, []}
 use lib.Dec.{ltb}
 use lib.ListN.{length, take, set, replicate}
 use Rattle.std.specs.Iters.{folded}
@@ -10,7 +10,6 @@ use Rattle.std.specs.declared.option.Option.the-variants.{Some, None}
 use Rattle.std.specs.declared.result.Result.{Result}
 use Rattle.std.specs.declared.result.Result.the-variants.{Ok, Err}
 use Rattle.turn_file.specs.declared.fault.FileFault.{FileFault}
-use Rattle.turn_file.specs.declared.fault.FileFault.the-variants.{TooLong}
 use Rattle.turn_file.specs.declared.plan.Algorithm.the-variants.{Ticket}
 use Rattle.turn_file.specs.declared.plan.Level.{Level}
 use Rattle.turn_file.specs.declared.plan.Plan.{Plan}

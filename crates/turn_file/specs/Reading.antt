@@ -1,7 +1,7 @@
 -- The records of a file in their order: what a reader hands out, and which record comes next.
-use Prim.Native.Nat.{ℕ, zero, suc, _+_, _-_, _*_}
-use mathlib.Core.Bool.{Bool, true, false, cond}
-use mathlib.Core.List.{List, [], _∷_}
+use Prim.Native.Nat.{ℕ, _+_, _-_, _*_}
+use mathlib.Core.Bool.{cond}
+use mathlib.Core.List.{List}
 use lib.Dec.{ltb}
 use lib.ListN.{length, take, drop}
 use Rattle.std.specs.declared.option.Option.{Option}
@@ -13,7 +13,6 @@ use Rattle.turn_file.specs.declared.fault.FileFault.{FileFault}
 use Rattle.turn_file.specs.declared.fault.FileFault.the-variants.{TrailingByte, TooLong}
 use Rattle.turn_file.specs.declared.plan.Level.{Level}
 use Rattle.turn_file.specs.declared.plan.Script.{Script}
-use Rattle.turn_file.specs.declared.record.Part.{Part}
 use Rattle.turn_file.specs.declared.reader.Reader.{Reader}
 use Rattle.turn_file.specs.declared.record.Record.{Record}
 use Rattle.turn_file.specs.declared.record.Record.the-variants as rec

@@ -1,6 +1,6 @@
 -- One turn of the loop that reads a number's groups.
 use Prim.Native.Nat.{ℕ, zero, suc, _+_, _*_, _-_, _≤_, _<_}
-use mathlib.Core.Path.{_≡_, refl, ap, _∙_}
+use mathlib.Core.Path.{_≡_, refl, sym, ap, _∙_}
 use mathlib.Core.List.{List}
 use mathlib.Core.Logic.{_⊎_}
 use native.Mathlib.Nat.{mul-add, add-mul, mul-assoc, mul-comm}
@@ -11,8 +11,10 @@ use Rattle.std.proofs.shelf.Ways.{tells}
 use Rattle.std.specs.declared.result.Result.{Result}
 use Rattle.std.specs.declared.result.Result.the-variants.{Ok, Err}
 use Rattle.turn_file.specs.declared.fault.NumberFault.{NumberFault}
-use Rattle.turn_file.specs.declared.fault.NumberFault.the-variants.{Ends, Padded, TooLarge}
-use Rattle.turn_file.specs.Number.{group-before, judged, groups, number-at}
+use Rattle.turn_file.specs.declared.fault.NumberFault.the-variants.{Ends}
+use Rattle.turn_file.specs.declared.number.Group.{Group}
+use Rattle.turn_file.specs.declared.number.Group.the-variants as group
+use Rattle.turn_file.specs.Number.{group-of, group-before, judged, groups, number-at}
 
 abbrev Read : Type 0
 Read = Result (ℕ × ℕ) NumberFault
@@ -38,42 +40,45 @@ Weighs left weight =
     ⊎ (((left ≡ 3) × (weight ≡ 16384))
     ⊎ (((left ≡ 2) × (weight ≡ 2097152)) ⊎ ((left ≡ 1) × (weight ≡ 268435456)))))
 
-module _ (at next : ℕ) (file : List ℕ) where
+-- what a last group and a group before others hold
+pub last-holds : (b left : ℕ) → group.Last ≡ group-of b left → (b < 128) × (b ≡ 0 → 4 ≤ left) × (left ≡ 0 → b < 16)
+last-holds b left is = (grind (arith, tells), λ zero-byte. grind (arith, tells), λ fifth. grind (arith, tells))
+
+pub more-holds : (b left : ℕ) → group.More ≡ group-of b left → (128 ≤ b) × (0 < left)
+more-holds b left is = (grind (arith, tells), grind (arith, tells))
+
+pub is-last : (b left : ℕ) → b < 128 → (b ≡ 0 → 4 ≤ left) → (left ≡ 0 → b < 16) → group-of b left ≡ group.Last
+is-last b left last shortest fits = grind (arith, tells)
+
+pub is-more : (b left : ℕ) → 128 ≤ b → 0 < left → group-of b left ≡ group.More
+is-more b left more some = grind (arith, tells)
+
+module _ (file : List ℕ) (at left next value weight : ℕ) where
   -- a byte is there, and is judged
   turn : (left : ℕ) → 0 < left → next < length file →
-      groups at left next (drop next file) ≡ judged at (left - 1) next (getD file next 0)
+      groups at left next (drop next file)
+      ≡ judged at (next + 1) (getD file next 0) (group-of (getD file next 0) (left - 1))
       (groups at (left - 1) (next + 1) (drop (next + 1) file))
   turn zero some within = absurd (omega arith)
   turn (suc left) some within =
       let less : suc left - 1 ≡ left = omega arith in rw (drop-more file next 0 within, less) refl
+
+  -- a turn of the loop: what its byte is tells what the number is
+  pub by-turn : (g : Group) → number-at file at ≡ behind value weight (groups at left next (drop next file)) →
+      0 < left → next < length file → g ≡ group-of (getD file next 0) (left - 1) →
+      number-at file at
+      ≡ behind value weight (judged at (next + 1) (getD file next 0) g
+      (groups at (left - 1) (next + 1) (drop (next + 1) file)))
+  by-turn g so-far some within is =
+      so-far ∙ ap (behind value weight) (turn left some within
+      ∙ ap (λ h. judged at (next + 1) (getD file next 0) h (groups at (left - 1) (next + 1) (drop (next + 1) file)))
+      (sym is))
 
   -- no byte is there
   turn-ends : (left : ℕ) → 0 < left → length file ≤ next → groups at left next (drop next file) ≡ Err (Ends at)
   turn-ends zero some past = absurd (omega arith)
   turn-ends (suc left) some past = rw (drop-all next file past) refl
 
-module _ (at left next b : ℕ) (r : Read) where
-  pub judged-padded : b ≡ 0 → left < 4 → judged at left next b r ≡ Err (Padded at)
-  judged-padded zero-byte later = grind (arith, tells)
-
-  pub judged-large : 16 ≤ b → left ≡ 0 → judged at left next b r ≡ Err (TooLarge at)
-  judged-large wide last = grind (arith, tells)
-
-  pub judged-last : ((b ≡ 0) × (4 ≤ left)) ⊎ (b ≡ 0 → ⊥) → ((16 ≤ b) × (left ≡ 0 → ⊥)) ⊎ (b < 16) → b < 128 →
-      judged at left next b r ≡ Ok (b, next + 1)
-  judged-last shortest fits last = grind (arith, tells)
-
-  pub judged-more : ((16 ≤ b) × (left ≡ 0 → ⊥)) ⊎ (b < 16) → 128 ≤ b → judged at left next b r ≡ group-before b r
-  judged-more fits more = grind (arith, tells)
-
--- a turn of the loop: how its byte is judged tells what the number is
-module _ (file : List ℕ) (at left next value weight : ℕ) where
-  pub by-turn : (x : Read) → number-at file at ≡ behind value weight (groups at left next (drop next file)) →
-      0 < left → next < length file →
-      judged at (left - 1) next (getD file next 0) (groups at (left - 1) (next + 1) (drop (next + 1) file)) ≡ x →
-      number-at file at ≡ behind value weight x
-  by-turn x so-far some within is = so-far ∙ ap (behind value weight) (turn at next file left some within ∙ is)
-
   pub by-end : number-at file at ≡ behind value weight (groups at left next (drop next file)) →
       0 < left → length file ≤ next → number-at file at ≡ Err (Ends at)
-  by-end so-far some past = so-far ∙ ap (behind value weight) (turn-ends at next file left some past)
+  by-end so-far some past = so-far ∙ ap (behind value weight) (turn-ends left some past)

@@ -24,7 +24,9 @@ use Rattle.turn_file.specs.declared.plan.Algorithm.{Algorithm}
 use Rattle.turn_file.specs.declared.step.Stage.{Stage}
 use Rattle.turn_file.specs.declared.step.Stage.the-variants as stage
 use Rattle.turn_file.specs.Fault.{in-file, in-record, number-place, record-place, fault-place}
-use Rattle.turn_file.specs.Number.{group-before, judged, groups, number-at}
+use Rattle.turn_file.specs.declared.number.Group.{Group}
+use Rattle.turn_file.specs.declared.number.Group.the-variants as group
+use Rattle.turn_file.specs.Number.{group-of, group-before, judged, groups, number-at}
 use Rattle.turn_file.specs.Reading.{Stepped, in-order, step, next-step}
 use Rattle.turn_file.specs.Reading.{levels-step, level-step, script-step, schedule-step}
 use Rattle.turn_file.specs.Record.{bind, judge, with-kind, field-at, levels-at, algorithm-of, algorithm-at, fan-out-at}
@@ -38,9 +40,12 @@ before-err : (b : ℕ) (r : Result (ℕ × ℕ) NumberFault) (e : NumberFault) �
 before-err b (Ok n) e is = absurd (let z : _≡_ {A = ℕ} 0 1 = cc in omega arith)
 before-err b (Err f) e is = let same : f ≡ e = cc in ap Err same
 
-judged-err : (at left next b : ℕ) (r : Result (ℕ × ℕ) NumberFault) (e : NumberFault) → judged at left next b r ≡ Err e →
-    (e ≡ Padded at) ⊎ ((e ≡ TooLarge at) ⊎ (group-before b r ≡ Err e))
-judged-err at left next b r e is = grind (arith, tells)
+judged-place : (at next b : ℕ) (g : Group) (r : Result (ℕ × ℕ) NumberFault) (e : NumberFault) →
+    ((f : NumberFault) → r ≡ Err f → number-place f ≡ at) → judged at next b g r ≡ Err e → number-place e ≡ at
+judged-place at next b group.Padded r e behind is = let same : Padded at ≡ e = cc in ap number-place (sym same)
+judged-place at next b group.TooLarge r e behind is = let same : TooLarge at ≡ e = cc in ap number-place (sym same)
+judged-place at next b group.Last r e behind is = absurd (let z : _≡_ {A = ℕ} 0 1 = cc in omega arith)
+judged-place at next b group.More r e behind is = behind e (before-err b r e is)
 
 groups-place : (at left next : ℕ) (bytes : List ℕ) (e : NumberFault) → groups at left next bytes ≡ Err e →
     number-place e ≡ at
@@ -51,11 +56,8 @@ groups-place at (suc left) next [] e is = let q = is in ap (λ (r : Result (ℕ 
     place-in d (Ok n) = d
     place-in d (Err f) = number-place f
 groups-place at (suc left) next (b ∷ bytes) e is =
-    elim (judged-err at left next b (groups at left (next + 1) bytes) e is) [
-      | inl p ↦ ap number-place p
-      | inr (inl p) ↦ ap number-place p
-      | inr (inr p) ↦ groups-place at left (next + 1) bytes e (before-err b (groups at left (next + 1) bytes) e p)
-    ]
+    judged-place at (next + 1) b (group-of b left) (groups at left (next + 1) bytes) e
+    (λ f. groups-place at left (next + 1) bytes f) is
 
 judge-err : {B : Type 0} (k : RecordKind) (r : Result (ℕ × ℕ) NumberFault) (value : ℕ × ℕ → Result B RecordFault)
     (f : RecordFault) → judge (with-kind k r) value ≡ Err f →

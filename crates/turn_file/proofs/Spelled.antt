@@ -12,9 +12,11 @@ use Rattle.std.proofs.shelf.Ways.{tells}
 use Rattle.std.specs.declared.result.Result.{Result}
 use Rattle.std.specs.declared.result.Result.the-variants.{Ok, Err}
 use Rattle.turn_file.specs.declared.fault.NumberFault.{NumberFault}
-use Rattle.turn_file.specs.Number.{group-before, judged, groups, number-at}
+use Rattle.turn_file.specs.declared.number.Group.{Group}
+use Rattle.turn_file.specs.declared.number.Group.the-variants as group
+use Rattle.turn_file.specs.Number.{group-of, group-before, judged, groups, number-at}
 use Rattle.turn_file.specs.Spelling.{spell-in, spell, Bytes, Stands, Spelled, One-spelling}
-use Rattle.turn_file.proofs.Groups.{judged-more}
+use Rattle.turn_file.proofs.Groups.{last-holds, more-holds, is-last, is-more}
 
 abbrev Read : Type 0
 Read = Result (ℕ × ℕ) NumberFault
@@ -60,10 +62,14 @@ spell-before left b v more byte some =
     ∙ ap (λ x. b ∷ spell-in left x) high
 
 -- the two ways to accept a byte: it is the last, or others follow
-judged-ok : (at left next b : ℕ) (r : Read) (n : ℕ × ℕ) → judged at left next b r ≡ Ok n →
-    ((b < 128) × (b ≡ 0 → 4 ≤ left) × (left ≡ 0 → b < 16) × (n ≡ (b, next + 1)))
+judged-ok : (at left next b : ℕ) (g : Group) (r : Read) (n : ℕ × ℕ) → g ≡ group-of b left →
+    judged at next b g r ≡ Ok n →
+    ((b < 128) × (b ≡ 0 → 4 ≤ left) × (left ≡ 0 → b < 16) × (n ≡ (b, next)))
     ⊎ ((128 ≤ b) × (0 < left) × (group-before b r ≡ Ok n))
-judged-ok at left next b r n ok = grind (arith, tells)
+judged-ok at left next b group.Padded r n is ok = absurd (not-ok _ n ok)
+judged-ok at left next b group.TooLarge r n is ok = absurd (not-ok _ n ok)
+judged-ok at left next b group.Last r n is ok = let h = last-holds b left is in inl (h .0, h .1, h .2, cc)
+judged-ok at left next b group.More r n is ok = let h = more-holds b left is in inr (h .0, h .1, ok)
 
 -- the bytes begin with the spelling of what was read of them in at most `left` groups
 record Read-as (left next : ℕ) (bytes : List ℕ) (n : ℕ × ℕ) : Type 0 where
@@ -114,7 +120,7 @@ groups-read : (at left next : ℕ) (bytes : List ℕ) (n : ℕ × ℕ) → left 
 groups-read at zero next bytes n most each ok = absurd (not-ok _ n ok)
 groups-read at (suc left) next [] n most each ok = absurd (not-ok _ n ok)
 groups-read at (suc left) next (b ∷ bytes) n most each ok =
-    elim (judged-ok at left next b (groups at left (next + 1) bytes) n ok) [
+    elim (judged-ok at left (next + 1) b (group-of b left) (groups at left (next + 1) bytes) n refl ok) [
       | inl h ↦ rw (h .3) (read-last left next b bytes (h .0) (h .1) (h .2))
       | inr h ↦
           let p = before-ok b (groups at left (next + 1) bytes) n (h .2) in
@@ -125,15 +131,24 @@ groups-read at (suc left) next (b ∷ bytes) n most each ok =
 
 -- a spelling in at most `left` groups is read: its last group, and one that others follow
 spelled-last : (at left next v : ℕ) (r : Read) → v < 128 → v < limit (suc left) → (suc left < 5 → 0 < v) →
-    judged at left next v r ≡ Ok (v, next + 1)
-spelled-last at zero next v r last below some = let nonzero : 0 < v = some (omega arith) in grind (arith, tells)
-spelled-last at (suc left) next v r last below some = grind (arith, tells)
+    judged at next v (group-of v left) r ≡ Ok (v, next)
+spelled-last at left next v r last below some =
+    ap (λ g. judged at next v g r)
+    (is-last v left last (shortest left some) (λ fifth. fifth-holds left below fifth))
+  where
+    shortest : (left : ℕ) → (suc left < 5 → 0 < v) → v ≡ 0 → 4 ≤ left
+    shortest left some zero-value =
+        elim (cases-lt left 4) [ inl few ↦ absurd (let k = some (omega arith) in omega arith) | inr enough ↦ enough ]
+
+    fifth-holds : (left : ℕ) → v < limit (suc left) → left ≡ 0 → v < 16
+    fifth-holds zero below fifth = below
+    fifth-holds (suc left) below fifth = absurd (omega arith)
 
 spelled-more : (at left next v to : ℕ) (r : Read) → 0 < left → r ≡ Ok (v / 128, to) →
-    judged at left next (128 + v % 128) r ≡ Ok (v, to)
+    judged at next (128 + v % 128) (group-of (128 + v % 128) left) r ≡ Ok (v, to)
 spelled-more at left next v to r behind is =
     let whole : 128 + v % 128 - 128 + 128 * (v / 128) ≡ v = omega arith in
-    judged-more at left next (128 + v % 128) r (inl (omega arith, λ none. omega arith)) (omega arith)
+    ap (λ g. judged at next (128 + v % 128) g r) (is-more (128 + v % 128) left (omega arith) behind)
     ∙ ap (group-before (128 + v % 128)) is
     ∙ ap (λ x. Ok (x, to)) whole
 
@@ -143,7 +158,8 @@ groups-spelled at zero next v rest most below some = absurd (omega arith)
 groups-spelled at (suc left) next v rest most below some =
     elim (cases-lt v 128) [
       | inl last ↦
-          rw (spell-last left v last) (spelled-last at left next v (groups at left (next + 1) rest) last below some)
+          rw (spell-last left v last)
+          (spelled-last at left (next + 1) v (groups at left (next + 1) rest) last below some)
       | inr more ↦
           let high : ℕ = v / 128 in
           let size : ℕ = length (spell-in left high) in
@@ -153,7 +169,7 @@ groups-spelled at (suc left) next v rest most below some =
           let read = groups-spelled at left (next + 1) high rest (omega arith) below-high some-high in
           let after : next + 1 + size ≡ next + suc size = omega arith in
           rw (spell-more left v more)
-          (spelled-more at left next v (next + suc size) _ behind (read ∙ ap (λ to. Ok (high, to)) after))
+          (spelled-more at left (next + 1) v (next + suc size) _ behind (read ∙ ap (λ to. Ok (high, to)) after))
     ]
 
 -- what is read ends past its first place, and within the bytes
@@ -162,7 +178,7 @@ groups-within : (at left next : ℕ) (bytes : List ℕ) (n : ℕ × ℕ) → gro
 groups-within at zero next bytes n ok = absurd (not-ok _ n ok)
 groups-within at (suc left) next [] n ok = absurd (not-ok _ n ok)
 groups-within at (suc left) next (b ∷ bytes) n ok =
-    elim (judged-ok at left next b (groups at left (next + 1) bytes) n ok) [
+    elim (judged-ok at left (next + 1) b (group-of b left) (groups at left (next + 1) bytes) n refl ok) [
       | inl h ↦ (omega (arith, ap (λ m. m .1) (h .3)), omega (arith, ap (λ m. m .1) (h .3)))
       | inr h ↦
           let p = before-ok b (groups at left (next + 1) bytes) n (h .2) in

@@ -23,25 +23,25 @@ script-text worker s =
     (codes " turns " ++ (decimal (s .turns) ++
     (codes " rest " ++ (decimal (s .rest) ++ (codes " hold " ++ decimal (s .hold)))))))
 
+-- a level up to its fan-out
+abbrev pub level-front : ℕ → Level → List ℕ → List ℕ
+level-front number l rest =
+    codes "level " ++ (decimal number ++ (codes " " ++ (algorithm-text (l .algorithm) ++
+    (codes " fan-out " ++ (decimal (l .«fan_out») ++ rest)))))
+
 -- the top level, whose number is 1, has no handoff limit
 abbrev pub level-text : ℕ → Level → ℕ → List ℕ
 level-text number l lanes =
     cond (eqb number 1)
-    (codes "level " ++ (decimal number ++
-    (codes " " ++ (algorithm-text (l .algorithm) ++
-    (codes " fan-out " ++ (decimal (l .«fan_out») ++ (codes " # lanes " ++ decimal lanes)))))))
-    (codes "level " ++ (decimal number ++
-    (codes " " ++ (algorithm-text (l .algorithm) ++
-    (codes " fan-out " ++
-    (decimal (l .«fan_out») ++
-    (codes " handoff-limit " ++
-    (decimal (l .«handoff_limit») ++ (codes " # lanes " ++ decimal lanes)))))))))
+    (level-front number l (codes " # lanes " ++ decimal lanes))
+    (level-front number l
+    (codes " handoff-limit " ++ (decimal (l .«handoff_limit») ++ (codes " # lanes " ++ decimal lanes))))
 
 -- levels from this number on, the first of them with so many lanes
 abbrev pub level-lines : ℕ → ℕ → List Level → List ℕ
 level-lines number lanes [] = []
-level-lines number lanes (l ∷ ls) = (level-text number l lanes ++ codes "\n") ++ level-lines (number + 1)
-    (lanes-below lanes l) ls
+level-lines number lanes (l ∷ ls) =
+    (level-text number l lanes ++ codes "\n") ++ level-lines (number + 1) (lanes-below lanes l) ls
 
 -- scripts from this worker on
 abbrev pub script-lines : ℕ → List Script → List ℕ
@@ -58,8 +58,8 @@ schedule-text es = codes "schedule" ++ joined entry-text es
 abbrev pub entry-lines : ℕ → List ℕ → List ℕ
 entry-lines zero es = []
 entry-lines (suc more) [] = []
-entry-lines (suc more) (e ∷ es) = (schedule-text (take 32 (e ∷ es)) ++ codes "\n") ++ entry-lines more
-    (drop 32 (e ∷ es))
+entry-lines (suc more) (e ∷ es) =
+    (schedule-text (take 32 (e ∷ es)) ++ codes "\n") ++ entry-lines more (drop 32 (e ∷ es))
 
 -- a schedule without entries has a line too; else a line has an entry at least
 abbrev pub schedule-lines : List ℕ → List ℕ

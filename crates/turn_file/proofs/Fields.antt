@@ -17,21 +17,22 @@ use Rattle.turn_file.specs.declared.plan.Algorithm.the-variants.{Ticket, Mcs}
 use Rattle.turn_file.specs.Number.{number-at}
 use Rattle.turn_file.specs.Record.{bind, judge, with-kind, field-at, algorithm-number}
 use Rattle.turn_file.specs.Record.{algorithm-of, algorithm-at, bad-fan-out}
+use Rattle.turn_file.proofs.Apart.{not-both}
 
 -- what was read first, and what came of it
 pub bind-ok : {A B : Type 0} (r : Result A RecordFault) (next : A → Result B RecordFault) (b : B) →
     bind r next ≡ Ok b → (a : A) × (r ≡ Ok a) × (next a ≡ Ok b)
 bind-ok (Ok a) next b e = (a, refl, e)
-bind-ok (Err f) next b e = absurd (let z : _≡_ {A = ℕ} 0 1 = cc in omega arith)
+bind-ok (Err f) next b e = absurd (not-both (sym e))
 
 pub judge-ok : {B : Type 0} (k : RecordKind) (r : Result (ℕ × ℕ) NumberFault) (value : ℕ × ℕ → Result B RecordFault)
     (b : B) → judge (with-kind k r) value ≡ Ok b → (n : ℕ × ℕ) × (r ≡ Ok n) × (value n ≡ Ok b)
 judge-ok k (Ok n) value b e = (n, refl, e)
-judge-ok k (Err f) value b e = absurd (let z : _≡_ {A = ℕ} 0 1 = cc in omega arith)
+judge-ok k (Err f) value b e = absurd (not-both (sym e))
 
 not-refused : {A : Type 0} (bad : Bool) (f : RecordFault) (a b : A) → cond bad (Err f) (Ok a) ≡ Ok b → (bad ≡ false)
     × (a ≡ b)
-not-refused true f a b e = absurd (let z : _≡_ {A = ℕ} 0 1 = cc in omega arith)
+not-refused true f a b e = absurd (not-both (sym e))
 not-refused false f a b e = (refl, cc)
 
 module _ (k : RecordKind) (bad : ℕ → Bool) (f : RecordFault) (file : List ℕ) (at : ℕ) (n : ℕ × ℕ) where

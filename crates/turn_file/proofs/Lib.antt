@@ -1,4 +1,5 @@
 pub mod Accepted
+pub mod Apart
 pub mod Complete
 pub mod Entries
 pub mod Fields

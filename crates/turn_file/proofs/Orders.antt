@@ -8,7 +8,7 @@ use native.Mathlib.Omega.{arith}
 use lib.Dec.{ltb}
 use lib.ListN.{length}
 use Rattle.std.proofs.shelf.Lists.{append-nil, drop-all}
-use Rattle.std.proofs.shelf.Tests.{cases-lt, lt-ltb, le-ltb, ltb-false}
+use Rattle.std.proofs.shelf.Tests.{true≢false, cases-lt, lt-ltb, le-ltb, ltb-false}
 use Rattle.std.specs.Iters.{folded}
 use Rattle.std.specs.declared.option.Option.{Option}
 use Rattle.std.specs.declared.option.Option.the-variants.{Some, None}
@@ -26,6 +26,7 @@ use Rattle.turn_file.specs.Plan.{PlanNumbers, with-item, blank-plan, plan-from
 use Rattle.turn_file.specs.Reading.{Item, Stepped, Cursor, in-order, levels-step, level-step, script-step}
 use Rattle.turn_file.specs.Reading.{schedule-step, next-step, next-from, moved-on}
 use Rattle.turn_file.specs.Spelling.{Bytes, Stands}
+use Rattle.turn_file.proofs.Apart.{not-both, some-none}
 use Rattle.turn_file.proofs.Complete.{next-complete}
 use Rattle.turn_file.proofs.Plans.{plan-ends, plan-refused, plan-goes-on}
 use Rattle.turn_file.proofs.Refused.{next-lies}
@@ -74,7 +75,7 @@ one-step : (x : Result (Option Stepped) FileFault) (s t : Stepped) → x ≡ Ok 
 one-step x s t e f = cc
 
 no-fault : (x : Result (Option Stepped) FileFault) (s : Stepped) (f : FileFault) → x ≡ Ok (Some s) → x ≡ Err f → ⊥
-no-fault x s f e g = let z : _≡_ {A = ℕ} 0 1 = cc in omega arith
+no-fault x s f e g = not-both (sym e ∙ g)
 
 -- records that are handed out from one place on are some of those that are handed out before a fault
 before-fault : (file : List ℕ) (at : ℕ) (from : Stage) (items : List Item) (to : ℕ) (after : Stage) (f : FileFault) →
@@ -123,18 +124,18 @@ step-is (Ok None) = inr (inl refl)
 step-is (Err f) = inr (inr (f, refl))
 
 in-order-some : (r : Result Stepped RecordFault) → in-order r ≡ Ok None → ⊥
-in-order-some (Ok s) e = let z : _≡_ {A = ℕ} 0 1 = cc in omega arith
-in-order-some (Err f) e = let z : _≡_ {A = ℕ} 0 1 = cc in omega arith
+in-order-some (Ok s) e = some-none e
+in-order-some (Err f) e = not-both (sym e)
 
 ended : (later : Bool) (f : FileFault) →
     _≡_ {A = Result (Option Stepped) FileFault} (cond later (Err f) (Ok None)) (Ok None) → later ≡ false
-ended true f e = absurd (let z : _≡_ {A = ℕ} 0 1 = cc in omega arith)
+ended true f e = absurd (not-both (sym e))
 ended false f e = refl
 
 no-end-fault : (later : Bool) (f g : FileFault) → later ≡ false →
     _≡_ {A = Result (Option Stepped) FileFault} (cond later (Err f) (Ok None)) (Err g) → ⊥
-no-end-fault true f g e h = let z : _≡_ {A = ℕ} 0 1 = cc in omega arith
-no-end-fault false f g e h = let z : _≡_ {A = ℕ} 0 1 = cc in omega arith
+no-end-fault true f g e h = true≢false e
+no-end-fault false f g e h = not-both h
 
 -- there is no record only at the end of the file
 none-left : (file : List ℕ) (at : ℕ) (from : Stage) → next-step file at from ≡ Ok None → (from ≡ stage.End)
@@ -163,9 +164,7 @@ plan-ran (suc most) c p q within enough e =
           let n = none-left (c .file) (c .place) (c .stage) k in
           let same : p ≡ q = let s = sym (plan-ends c p (suc most) (omega arith) k) ∙ e in cc in
           ([], (let l = n .1 in omega arith, n .0), sym same)
-      | inr (inr k) ↦ absurd
-          (let s = sym (plan-refused c p (suc most) (k .0) (omega arith) (k .1))
-          ∙ e in let z : _≡_ {A = ℕ} 0 1 = cc in omega arith)
+      | inr (inr k) ↦ absurd (not-both (sym e ∙ plan-refused c p (suc most) (k .0) (omega arith) (k .1)))
     ]
 
 -- a plan that was refused: the records before the fault were handed out
@@ -182,8 +181,7 @@ plan-stopped (suc most) c p f within enough e =
           let m = plan-stopped most (moved-on c (Ok (Some (k .0)))) (with-item p (k .0 .handed .item)) f (t .1)
           (omega arith) (sym (plan-goes-on c p most (k .0) (k .1)) ∙ e) in
           (k .0 .handed .item ∷ m .0, m .1, m .2, (k .0, k .1, refl, m .3), m .4, m .5)
-      | inr (inl k) ↦ absurd
-          (let s = sym (plan-ends c p (suc most) (omega arith) k) ∙ e in let z : _≡_ {A = ℕ} 0 1 = cc in omega arith)
+      | inr (inl k) ↦ absurd (not-both (sym (plan-ends c p (suc most) (omega arith) k) ∙ e))
       | inr (inr k) ↦
           let same : k .0 ≡ f = let s = sym (plan-refused c p (suc most) (k .0) (omega arith) (k .1)) ∙ e in cc in
           ([], c .place, c .stage, (refl, refl), k .1 ∙ ap Err same, within)
@@ -266,10 +264,10 @@ module _ (file : List ℕ) (each : Bytes file) (short : length file ≤ longest-
 -- what the reader of whole files answers
 judged-whole : (x : Result PlanNumbers FileFault) → judgement x ≡ Ok tt → (p : PlanNumbers) × (x ≡ Ok p)
 judged-whole (Ok p) e = (p, refl)
-judged-whole (Err f) e = absurd (let z : _≡_ {A = ℕ} 0 1 = cc in omega arith)
+judged-whole (Err f) e = absurd (not-both (sym e))
 
 judged-fault : (x : Result PlanNumbers FileFault) (f : FileFault) → judgement x ≡ Err f → x ≡ Err f
-judged-fault (Ok p) f e = absurd (let z : _≡_ {A = ℕ} 0 1 = cc in omega arith)
+judged-fault (Ok p) f e = absurd (not-both e)
 judged-fault (Err g) f e = let q : g ≡ f = cc in ap Err q
 
 pub read-whole : (file : List ℕ) (was : Plan) (p : PlanNumbers) (r : Result (Unit {0}) FileFault) → Bytes file →
@@ -279,7 +277,7 @@ read-whole file was p r each answer plan = record {
       let k = judged-whole (plan-of file) (sym answer ∙ ok) in
       let said = plan ∙ ap (filled was) (k .1) in
       elim (cases-lt longest-file (length file)) [
-        | inl long ↦ absurd (let l = too-long file long in let s = k .1 in let z : _≡_ {A = ℕ} 0 1 = cc in omega arith)
+        | inl long ↦ absurd (not-both (sym (k .1) ∙ too-long file long))
         | inr short ↦ (short, subst (Whole file) (sym said) (read-accepted file each short (k .0) (k .1)))
       ];
   refused = λ fault err.

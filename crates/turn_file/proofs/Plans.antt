@@ -15,23 +15,24 @@ use Rattle.turn_file.specs.declared.fault.FileFault.the-variants.{TooLong}
 use Rattle.turn_file.specs.Fault.{longest-file}
 use Rattle.turn_file.specs.Plan.{PlanNumbers, with-item, on-next, on-open, plan-from, plan-of, blank-plan}
 use Rattle.turn_file.specs.Reading.{Handed, Stepped, Cursor, open-file, next-from, handed-out, moved-on}
+use Rattle.turn_file.proofs.Apart.{not-both, some-none}
 use Rattle.turn_file.proofs.Steps.{next-takes}
 
 -- what was answered tells what the step was
 pub handed-some : (x : Result (Option Stepped) FileFault) (h : Handed) → Ok (Some h) ≡ handed-out x → (s : Stepped)
     × (x ≡ Ok (Some s)) × (s .handed ≡ h)
 handed-some (Ok (Some s)) h e = (s, refl, cc)
-handed-some (Ok None) h e = absurd (let z : _≡_ {A = ℕ} 0 1 = cc in omega arith)
-handed-some (Err f) h e = absurd (let z : _≡_ {A = ℕ} 0 1 = cc in omega arith)
+handed-some (Ok None) h e = absurd (some-none e)
+handed-some (Err f) h e = absurd (not-both e)
 
 pub handed-none : (x : Result (Option Stepped) FileFault) → Ok None ≡ handed-out x → x ≡ Ok None
-handed-none (Ok (Some s)) e = absurd (let z : _≡_ {A = ℕ} 0 1 = cc in omega arith)
+handed-none (Ok (Some s)) e = absurd (some-none (sym e))
 handed-none (Ok None) e = refl
-handed-none (Err f) e = absurd (let z : _≡_ {A = ℕ} 0 1 = cc in omega arith)
+handed-none (Err f) e = absurd (not-both e)
 
 pub handed-fault : (x : Result (Option Stepped) FileFault) (f : FileFault) → Err f ≡ handed-out x → x ≡ Err f
-handed-fault (Ok (Some s)) f e = absurd (let z : _≡_ {A = ℕ} 0 1 = cc in omega arith)
-handed-fault (Ok None) f e = absurd (let z : _≡_ {A = ℕ} 0 1 = cc in omega arith)
+handed-fault (Ok (Some s)) f e = absurd (not-both (sym e))
+handed-fault (Ok None) f e = absurd (not-both (sym e))
 handed-fault (Err g) f e = let q : g ≡ f = cc in ap Err q
 
 module _ (c : Cursor) (p : PlanNumbers) where
@@ -85,7 +86,7 @@ module _ (file : List ℕ) (c : Cursor) (p : PlanNumbers) (whole : Result PlanNu
 -- at the beginning
 opened-at : (too-long : Bool) (f : FileFault) (a c : Cursor) →
     _≡_ {A = Result Cursor FileFault} (Ok c) (cond too-long (Err f) (Ok a)) → a ≡ c
-opened-at true f a c e = absurd (let z : _≡_ {A = ℕ} 0 1 = cc in omega arith)
+opened-at true f a c e = absurd (not-both e)
 opened-at false f a c e = cc
 
 pub not-opened : (file : List ℕ) (f : FileFault) → Err f ≡ open-file file → plan-of file ≡ Err f

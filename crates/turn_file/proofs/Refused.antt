@@ -32,19 +32,20 @@ use Rattle.turn_file.specs.Reading.{levels-step, level-step, script-step, sche
 use Rattle.turn_file.specs.Record.{bind, judge, with-kind, field-at, levels-at, algorithm-of, algorithm-at, fan-out-at}
 use Rattle.turn_file.specs.Record.{bad-levels, bad-fan-out, bad-limit, bad-script-number, bad-entry}
 use Rattle.turn_file.specs.Record.{limit-at, level-at, script-number-at, script-at, entry-at, entries-end, schedule-at}
+use Rattle.turn_file.proofs.Apart.{not-both}
 use Rattle.turn_file.proofs.Fields.{field-ok, algorithm-ok}
 use Rattle.turn_file.proofs.Spelled.{number-within}
 
 -- a faulty number: the place is that of its first byte
 before-err : (b : ℕ) (r : Result (ℕ × ℕ) NumberFault) (e : NumberFault) → group-before b r ≡ Err e → r ≡ Err e
-before-err b (Ok n) e is = absurd (let z : _≡_ {A = ℕ} 0 1 = cc in omega arith)
+before-err b (Ok n) e is = absurd (not-both is)
 before-err b (Err f) e is = let same : f ≡ e = cc in ap Err same
 
 judged-place : (at next b : ℕ) (g : Group) (r : Result (ℕ × ℕ) NumberFault) (e : NumberFault) →
     ((f : NumberFault) → r ≡ Err f → number-place f ≡ at) → judged at next b g r ≡ Err e → number-place e ≡ at
 judged-place at next b group.Padded r e behind is = let same : Padded at ≡ e = cc in ap number-place (sym same)
 judged-place at next b group.TooLarge r e behind is = let same : TooLarge at ≡ e = cc in ap number-place (sym same)
-judged-place at next b group.Last r e behind is = absurd (let z : _≡_ {A = ℕ} 0 1 = cc in omega arith)
+judged-place at next b group.Last r e behind is = absurd (not-both is)
 judged-place at next b group.More r e behind is = behind e (before-err b r e is)
 
 groups-place : (at left next : ℕ) (bytes : List ℕ) (e : NumberFault) → groups at left next bytes ≡ Err e →
@@ -72,7 +73,7 @@ bind-err (Err g) next f is = let same : g ≡ f = cc in inl (ap Err same)
 
 refused-by : {A : Type 0} (bad : Bool) (a : A) (f g : RecordFault) → cond bad (Err f) (Ok a) ≡ Err g → f ≡ g
 refused-by true a f g is = cc
-refused-by false a f g is = absurd (let z : _≡_ {A = ℕ} 0 1 = cc in omega arith)
+refused-by false a f g is = absurd (not-both is)
 
 -- a refused field: the place is that of its number
 field-place : (k : RecordKind) (bad : ℕ → Bool) (f : RecordFault) (file : List ℕ) (at : ℕ) (g : RecordFault) →
@@ -93,7 +94,7 @@ algorithm-place file at g is =
       | inr p ↦
           elim (bind-err (algorithm-of (p .0 .0) (fault.Algorithm at)) _ g (p .2)) [
             | inl q ↦ sym (ap record-place (no-algorithm (p .0 .0) (fault.Algorithm at) g q))
-            | inr q ↦ absurd (let s = q .2 in let z : _≡_ {A = ℕ} 0 1 = cc in omega arith)
+            | inr q ↦ absurd (not-both (q .2))
           ]
     ]
 
@@ -101,16 +102,13 @@ limit-place : (rank : ℕ) (file : List ℕ) (at : ℕ) (g : RecordFault) → li
     record-place g ≡ at
 limit-place rank file at g is =
     elim (eqb-tells rank 0) [
-      | inl t ↦ absurd (let s = simp (t .0) at is in let z : _≡_ {A = ℕ} 0 1 = cc in omega arith)
+      | inl t ↦ absurd (not-both (simp (t .0) at is))
       | inr t ↦ field-place kind.Level bad-limit (fault.HandoffLimit at) file at g refl (simp (t .0) at is)
     ]
 
 -- a place of the record that begins at `at`, or the file's end
 abbrev pub Lies : List ℕ → ℕ → ℕ → Type 0
 Lies file at place = (at ≤ place) × (place ≤ length file)
-
-no-record : {A : Type 0} (a : A) (g : RecordFault) → _≡_ {A = Result A RecordFault} (Ok a) (Err g) → ⊥
-no-record a g is = let z : _≡_ {A = ℕ} 0 1 = cc in omega arith
 
 level-lies : (rank parties : ℕ) (file : List ℕ) (at : ℕ) (g : RecordFault) → at ≤ length file →
     level-at rank parties file at ≡ Err g → Lies file at (record-place g)
@@ -129,7 +127,7 @@ level-lies rank parties file at g before is =
                 (f .1) .0) in
                 elim (bind-err (limit-at rank file (f .0 .1)) _ g (f .2)) [
                   | inl p ↦ let e = limit-place rank file (f .0 .1) g p in (omega arith, omega arith)
-                  | inr h ↦ absurd (no-record _ g (h .2))
+                  | inr h ↦ absurd (not-both (h .2))
                 ]
           ]
     ]
@@ -155,14 +153,14 @@ module _ (file : List ℕ) where
                   let v = script-number-within (t .0 .1) (r .0) (r .1) in
                   elim (bind-err (script-number-at file (r .0 .1)) _ g (r .2)) [
                     | inl p ↦ let e = script-number-place (r .0 .1) g p in (omega arith, omega arith)
-                    | inr h ↦ absurd (no-record _ g (h .2))
+                    | inr h ↦ absurd (not-both (h .2))
                   ]
             ]
       ]
 
   entries-lie : (count workers at : ℕ) (g : RecordFault) → at ≤ length file →
       entries-end count workers file at ≡ Err g → Lies file at (record-place g)
-  entries-lie zero workers at g before is = absurd (no-record at g is)
+  entries-lie zero workers at g before is = absurd (not-both is)
   entries-lie (suc count) workers at g before is =
       elim (bind-err (entry-at workers file at) _ g is) [
         | inl p ↦
@@ -186,14 +184,14 @@ module _ (file : List ℕ) where
             let w = number-within file at (n .0) (n .1) in
             elim (bind-err (entries-end (n .0 .0) workers file (n .0 .1)) _ g (n .2)) [
               | inl p ↦ let m = entries-lie (n .0 .0) workers (n .0 .1) g (w .1) p in (omega arith, m .1)
-              | inr h ↦ absurd (no-record _ g (h .2))
+              | inr h ↦ absurd (not-both (h .2))
             ]
       ]
 
 -- a step that fails fails in its record
 in-order-err : (r : Result Stepped RecordFault) (f : FileFault) → in-order r ≡ Err f →
     (g : RecordFault) × (r ≡ Err g) × (fault-place f ≡ record-place g)
-in-order-err (Ok s) f is = absurd (let z : _≡_ {A = ℕ} 0 1 = cc in omega arith)
+in-order-err (Ok s) f is = absurd (not-both is)
 in-order-err (Err g) f is = let same : in-file g ≡ f = cc in (g, refl, sym (ap fault-place same))
 
 record-err : {A : Type 0} (r : Result A RecordFault) (made : A → Result Stepped RecordFault) (g : RecordFault) →
@@ -204,26 +202,26 @@ trailing : (later : Bool) (at : ℕ) (f : FileFault) →
     _≡_ {A = Result (Option Stepped) FileFault} (cond later (Err (TrailingByte at)) (Ok None)) (Err f) →
     fault-place f ≡ at
 trailing true at f is = let same : TrailingByte at ≡ f = cc in ap fault-place (sym same)
-trailing false at f is = absurd (let z : _≡_ {A = ℕ} 0 1 = cc in omega arith)
+trailing false at f is = absurd (not-both is)
 
 pub next-lies : (file : List ℕ) (at : ℕ) (from : Stage) (f : FileFault) → at ≤ length file →
     next-step file at from ≡ Err f → Lies file at (fault-place f)
 next-lies file at stage.Levels f before is =
     let k = in-order-err (levels-step file at) f is in
-    let p = record-err (levels-at file at) _ (k .0) (λ a. no-record _ (k .0)) (k .1) in
+    let p = record-err (levels-at file at) _ (k .0) (λ a is. not-both is) (k .1) in
     let e = k .2 ∙ field-place kind.Levels bad-levels (fault.LevelCount at) file at (k .0) refl p in
     (omega arith, omega arith)
 next-lies file at (stage.Level rank count parties) f before is =
     let k = in-order-err (level-step rank count parties file at) f is in
-    let p = record-err (level-at rank parties file at) _ (k .0) (λ a. no-record _ (k .0)) (k .1) in
+    let p = record-err (level-at rank parties file at) _ (k .0) (λ a is. not-both is) (k .1) in
     subst (Lies file at) (sym (k .2)) (level-lies rank parties file at (k .0) before p)
 next-lies file at (stage.Script worker workers) f before is =
     let k = in-order-err (script-step worker workers file at) f is in
-    let p = record-err (script-at file at) _ (k .0) (λ a. no-record _ (k .0)) (k .1) in
+    let p = record-err (script-at file at) _ (k .0) (λ a is. not-both is) (k .1) in
     subst (Lies file at) (sym (k .2)) (script-lies file at (k .0) before p)
 next-lies file at (stage.Schedule workers) f before is =
     let k = in-order-err (schedule-step workers file at) f is in
-    let p = record-err (schedule-at workers file at) _ (k .0) (λ a. no-record _ (k .0)) (k .1) in
+    let p = record-err (schedule-at workers file at) _ (k .0) (λ a is. not-both is) (k .1) in
     subst (Lies file at) (sym (k .2)) (schedule-lies file workers at (k .0) before p)
 next-lies file at stage.End f before is =
     let e = trailing (ltb at (length file)) at f is in (omega arith, omega arith)

@@ -16,14 +16,11 @@ use Rattle.turn_file.specs.declared.number.Group.{Group}
 use Rattle.turn_file.specs.declared.number.Group.the-variants as group
 use Rattle.turn_file.specs.Number.{group-of, group-before, judged, groups, number-at}
 use Rattle.turn_file.specs.Spelling.{spell-in, spell, Bytes, Stands, Spelled, One-spelling}
+use Rattle.turn_file.proofs.Apart.{not-both}
 use Rattle.turn_file.proofs.Groups.{last-holds, more-holds, is-last, is-more}
 
 abbrev Read : Type 0
 Read = Result (ℕ × ℕ) NumberFault
-
--- a fault is no number
-not-ok : (fault : NumberFault) (n : ℕ × ℕ) → _≡_ {A = Read} (Err fault) (Ok n) → ⊥
-not-ok fault n ok = let wrong : _≡_ {A = ℕ} 0 1 = cc in omega arith
 
 -- what `left` groups hold is below this: the last of five holds four bits
 abbrev limit : ℕ → ℕ
@@ -66,8 +63,8 @@ judged-ok : (at left next b : ℕ) (g : Group) (r : Read) (n : ℕ × ℕ) → g
     judged at next b g r ≡ Ok n →
     ((b < 128) × (b ≡ 0 → 4 ≤ left) × (left ≡ 0 → b < 16) × (n ≡ (b, next)))
     ⊎ ((128 ≤ b) × (0 < left) × (group-before b r ≡ Ok n))
-judged-ok at left next b group.Padded r n is ok = absurd (not-ok _ n ok)
-judged-ok at left next b group.TooLarge r n is ok = absurd (not-ok _ n ok)
+judged-ok at left next b group.Padded r n is ok = absurd (not-both (sym ok))
+judged-ok at left next b group.TooLarge r n is ok = absurd (not-both (sym ok))
 judged-ok at left next b group.Last r n is ok = let h = last-holds b left is in inl (h .0, h .1, h .2, cc)
 judged-ok at left next b group.More r n is ok = let h = more-holds b left is in inr (h .0, h .1, ok)
 
@@ -112,13 +109,13 @@ read-more left next b bytes m most behind more byte read =
 before-ok : (b : ℕ) (r : Read) (n : ℕ × ℕ) → group-before b r ≡ Ok n →
     (m : ℕ × ℕ) × (r ≡ Ok m) × (n ≡ (b - 128 + 128 * m .0, m .1))
 before-ok b (Ok m) n ok = (m, refl, cc)
-before-ok b (Err e) n ok = absurd (not-ok _ n ok)
+before-ok b (Err e) n ok = absurd (not-both (sym ok))
 
 -- what at most `left` groups are read as
 groups-read : (at left next : ℕ) (bytes : List ℕ) (n : ℕ × ℕ) → left ≤ 5 → Bytes bytes →
     groups at left next bytes ≡ Ok n → Read-as left next bytes n
-groups-read at zero next bytes n most each ok = absurd (not-ok _ n ok)
-groups-read at (suc left) next [] n most each ok = absurd (not-ok _ n ok)
+groups-read at zero next bytes n most each ok = absurd (not-both (sym ok))
+groups-read at (suc left) next [] n most each ok = absurd (not-both (sym ok))
 groups-read at (suc left) next (b ∷ bytes) n most each ok =
     elim (judged-ok at left (next + 1) b (group-of b left) (groups at left (next + 1) bytes) n refl ok) [
       | inl h ↦ rw (h .3) (read-last left next b bytes (h .0) (h .1) (h .2))
@@ -175,8 +172,8 @@ groups-spelled at (suc left) next v rest most below some =
 -- what is read ends past its first place, and within the bytes
 groups-within : (at left next : ℕ) (bytes : List ℕ) (n : ℕ × ℕ) → groups at left next bytes ≡ Ok n →
     (next < n .1) × (n .1 ≤ next + length bytes)
-groups-within at zero next bytes n ok = absurd (not-ok _ n ok)
-groups-within at (suc left) next [] n ok = absurd (not-ok _ n ok)
+groups-within at zero next bytes n ok = absurd (not-both (sym ok))
+groups-within at (suc left) next [] n ok = absurd (not-both (sym ok))
 groups-within at (suc left) next (b ∷ bytes) n ok =
     elim (judged-ok at left (next + 1) b (group-of b left) (groups at left (next + 1) bytes) n refl ok) [
       | inl h ↦ (omega (arith, ap (λ m. m .1) (h .3)), omega (arith, ap (λ m. m .1) (h .3)))
@@ -247,7 +244,7 @@ spelled-number file at v to small stands =
 pub refused-unspelled : (file : List ℕ) (at : ℕ) (fault : NumberFault) → number-at file at ≡ Err fault →
     (v to : ℕ) → v < 2 ^ 32 → Stands (spell v) file at to → ⊥
 refused-unspelled file at fault err v to small stands =
-    not-ok fault (v, to) (sym err ∙ spelled-number file at v to small stands)
+    not-both (sym (spelled-number file at v to small stands) ∙ err)
 
 -- a spelling is of bytes
 bytes-more : (b : ℕ) (xs : List ℕ) → b < 256 → Bytes xs → Bytes (b ∷ xs)

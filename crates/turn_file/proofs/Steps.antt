@@ -1,6 +1,6 @@
 -- What a reader's next step says of the file.
 use Prim.Native.Nat.{ℕ, _-_}
-use mathlib.Core.Path.{_≡_, ap, subst}
+use mathlib.Core.Path.{_≡_, sym, ap, subst}
 use mathlib.Core.Bool.{Bool, true, false, cond}
 use mathlib.Core.List.{List}
 use native.Mathlib.Omega.{arith}
@@ -15,17 +15,18 @@ use Rattle.turn_file.specs.declared.step.Stage.{Stage}
 use Rattle.turn_file.specs.declared.step.Stage.the-variants as stage
 use Rattle.turn_file.specs.Record.{levels-at, level-at, script-at, schedule-at}
 use Rattle.turn_file.specs.Reading.{Stepped, in-order, levels-step, level-step, script-step, schedule-step, next-step}
+use Rattle.turn_file.proofs.Apart.{not-both, some-none}
 use Rattle.turn_file.proofs.Fields.{bind-ok}
 use Rattle.turn_file.proofs.Within.{Takes, levels-take, level-takes, script-takes, schedule-takes}
 
 -- a record that was handed out was read
 pub in-order-ok : (r : Result Stepped RecordFault) (s : Stepped) → in-order r ≡ Ok (Some s) → r ≡ Ok s
 in-order-ok (Ok t) s e = let q : t ≡ s = cc in ap Ok q
-in-order-ok (Err f) s e = absurd (let z : _≡_ {A = ℕ} 0 1 = cc in omega arith)
+in-order-ok (Err f) s e = absurd (not-both (sym e))
 
 pub no-step : (t : Bool) (f : FileFault) (s : Stepped) → cond t (Err f) (Ok None) ≡ Ok (Some s) → ⊥
-no-step true f s e = let z : _≡_ {A = ℕ} 0 1 = cc in omega arith
-no-step false f s e = let z : _≡_ {A = ℕ} 0 1 = cc in omega arith
+no-step true f s e = not-both (sym e)
+no-step false f s e = some-none (sym e)
 
 -- what holds of the step that was made holds of the step that was handed out
 pub of-step : (P : Stepped → Type 0) (a s : Stepped) → _≡_ {A = Result Stepped RecordFault} (Ok a) (Ok s) → P a → P s

@@ -270,7 +270,7 @@ judged-fault : (x : Result PlanNumbers FileFault) (f : FileFault) → judgement 
 judged-fault (Ok p) f e = absurd (not-both e)
 judged-fault (Err g) f e = let q : g ≡ f = cc in ap Err q
 
-pub read-whole : (file : List ℕ) (was : Plan) (p : PlanNumbers) (r : Result (Unit {0}) FileFault) → Bytes file →
+read-whole : (file : List ℕ) (was : Plan) (p : PlanNumbers) (r : Result (Unit {0}) FileFault) → Bytes file →
     r ≡ judgement (plan-of file) → p ≡ filled was (plan-of file) → Read-whole file r p
 read-whole file was p r each answer plan = record {
   accepted = λ ok.
@@ -287,3 +287,12 @@ read-whole file was p r each answer plan = record {
         | inr short ↦ inr (short, read-refused file each short fault k)
       ];
 }
+
+-- what is told of a file whose plan is known: the answer, the lent plan, and the law
+pub told : (file : List ℕ) (was : Plan) (p : PlanNumbers) (r : Result (Unit {0}) FileFault)
+    (x : Result PlanNumbers FileFault) → Bytes file → plan-of file ≡ x → r ≡ judgement x → p ≡ filled was x →
+    (r ≡ judgement (plan-of file)) × (p ≡ filled was (plan-of file)) × Read-whole file r p
+told file was p r x each known answer plan =
+    let answered = answer ∙ sym (ap judgement known) in
+    let held = plan ∙ sym (ap (filled was) known) in
+    (answered, held, read-whole file was p r each answered held)

@@ -1,12 +1,12 @@
 use Prim.Native.Nat.{_-_}
-use mathlib.Core.Path.{_≡_, sym, ap, subst, _∙_}
+use mathlib.Core.Path.{_≡_, refl, sym, ap, subst, _∙_}
 use native.Mathlib.Omega.{arith}
 use Rattle.std.proofs.shelf.Results.{err-from-errBy}
 use Rattle.std.specs.declared.option.Option.the-variants.{Some}
 use Rattle.std.specs.declared.result.Result.the-variants.{Ok, Err}
-use Rattle.turn_file.specs.Plan.{plan-numbers, plan-of, with-item, judgement, filled}
+use Rattle.turn_file.specs.Plan.{plan-numbers, plan-of, with-item}
 use Rattle.turn_file.specs.Reading.{Handed, Stepped, Cursor, cursor-of, next-from, moved-on, seen-record, seen-answer}
-use Rattle.turn_file.proofs.Orders.{read-whole}
+use Rattle.turn_file.proofs.Orders.{told}
 use Rattle.turn_file.proofs.Plans.{Completes, handed-some, handed-none, handed-fault, not-opened, begins, completed}
 use Rattle.turn_file.proofs.Plans.{refused, takes, goes-on}
 use Rattle.turn_file.proofs.plan_reader.read_plan.Needs as need
@@ -16,32 +16,25 @@ loop-record-holds c = begins (c .args .file .now) _ _ (c .in-Continue-reader .en
 
 pub returns-in-Break-record : need.returns-in-Break-record
 returns-in-Break-record c =
+    let file = c .args .file .now in
     let p = err-from-errBy (c .from-residual-in-Break-record .result) (c .from-residual-in-Break-record .ensures .1) in
     let f = c .in-Break-record .field-0 .0 in
     let faulty = handed-fault (next-from (cursor-of (c .loop-record .reader))) f
     (c .in-Break-record .ensures tt .answer) in
-    let whole = refused (c .args .file .now) _ _ (plan-of (c .args .file .now)) (c .loop-record .inv) f faulty in
-    let answered = p .1 ∙ ap Err (p .2) ∙ sym (ap judgement whole) in
-    let kept = sym (ap (filled (c .args .plan .now)) whole) in
-    record {
-      answer = answered;
-      plan = kept;
-      law = read-whole (c .args .file .now) (c .args .plan .now) _ _
-          (λ i. c .typed .file i .fits) answered kept;
-    }
+    let whole = refused file _ _ (plan-of file) (c .loop-record .inv) f faulty in
+    let t = told file (c .args .plan .now) _ _ (Err f) (λ i. c .typed .file i .fits) whole
+    (p .1 ∙ ap Err (p .2)) refl in
+    record { answer = t .0; plan = t .1; law = t .2 }
 
 pub returns-in-Break-reader : need.returns-in-Break-reader
 returns-in-Break-reader c =
+    let file = c .args .file .now in
     let p = err-from-errBy (c .from-residual .result) (c .from-residual .ensures .1) in
-    let whole = not-opened (c .args .file .now) (c .in-Break-reader .field-0 .0) (c .in-Break-reader .ensures tt) in
-    let answered = p .1 ∙ ap Err (p .2) ∙ sym (ap judgement whole) in
-    let kept = sym (ap (filled (c .args .plan .now)) whole) in
-    record {
-      answer = answered;
-      plan = kept;
-      law = read-whole (c .args .file .now) (c .args .plan .now) _ _
-          (λ i. c .typed .file i .fits) answered kept;
-    }
+    let f = c .in-Break-reader .field-0 .0 in
+    let whole = not-opened file f (c .in-Break-reader .ensures tt) in
+    let t = told file (c .args .plan .now) _ _ (Err f) (λ i. c .typed .file i .fits) whole
+    (p .1 ∙ ap Err (p .2)) refl in
+    record { answer = t .0; plan = t .1; law = t .2 }
 
 -- the step that the reader made
 made-step : (c : need.After-enter) → (s : Stepped) × (next-from (cursor-of (c .loop-record .reader)) ≡ Ok (Some s))
@@ -72,14 +65,9 @@ loop-record-again c =
 
 pub returns : need.returns
 returns c =
+    let file = c .args .file .now in
     let ended = handed-none (next-from (cursor-of (c .loop-record .reader)))
     (ap (λ o. seen-answer (Ok o)) (sym (c .in-rest .is)) ∙ c .in-Continue-record .ensures tt .answer) in
-    let whole = completed (c .args .file .now) _ _ (plan-of (c .args .file .now)) (c .loop-record .inv) ended in
-    let answered = sym (ap judgement whole) in
-    let entered = sym (ap (filled (c .args .plan .now)) whole) in
-    record {
-      answer = answered;
-      plan = entered;
-      law = read-whole (c .args .file .now) (c .args .plan .now) _ _
-          (λ i. c .typed .file i .fits) answered entered;
-    }
+    let whole = completed file _ _ (plan-of file) (c .loop-record .inv) ended in
+    let t = told file (c .args .plan .now) _ _ _ (λ i. c .typed .file i .fits) whole refl refl in
+    record { answer = t .0; plan = t .1; law = t .2 }

@@ -140,8 +140,7 @@ next-complete file at stage.Levels item to after few (n, is, some, most, then) s
       found = ap in-order (bind-is _ e refl);
       item-is = sym is;
       place-is = refl;
-      stage-is =
-          sym then;
+      stage-is = sym then;
     }
 next-complete file at (stage.Level rank count parties) item to after few (l, is, fits, then) s =
     let e = level-complete file rank parties at to l few fits
@@ -151,8 +150,7 @@ next-complete file at (stage.Level rank count parties) item to after few (l, is,
       found = ap in-order (bind-is _ e refl);
       item-is = sym is;
       place-is = refl;
-      stage-is =
-          sym then;
+      stage-is = sym then;
     }
 next-complete file at (stage.Script worker workers) item to after few (t, is, fits, then) s =
     let e = script-complete file worker at to t fits (subst (λ i. Stands (record-spelling i) file at to) is s) in
@@ -161,8 +159,7 @@ next-complete file at (stage.Script worker workers) item to after few (t, is, fi
       found = ap in-order (bind-is _ e refl);
       item-is = sym is;
       place-is = refl;
-      stage-is =
-          sym then;
+      stage-is = sym then;
     }
 next-complete file at (stage.Schedule workers) item to after few (es, is, counted, all, then) s =
     let e = schedule-complete file workers at to es few counted all
@@ -170,8 +167,7 @@ next-complete file at (stage.Schedule workers) item to after few (es, is, counte
     record {
       stepped = _;
       found = ap in-order (bind-is _ (e .1) refl);
-      item-is = ap schedule (e .2)
-          ∙ sym is;
+      item-is = ap schedule (e .2) ∙ sym is;
       place-is = refl;
       stage-is = sym then;
     }

@@ -68,8 +68,7 @@ module _ (file : List ℕ) (each : Bytes file) where
     record {
       turns = script-fits _ (f .turns .1);
       rest = script-fits _ (f .rest .1);
-      hold =
-          script-fits _ (f .hold .1);
+      hold = script-fits _ (f .hold .1);
     },
     stands-both (number-spelled file at _ each (f .turns .0) .1)
         (stands-both (number-spelled file (f .at-rest) _ each (f .rest .0) .1)

@@ -36,20 +36,24 @@ handed-fault (Ok None) f e = absurd (not-both (sym e))
 handed-fault (Err g) f e = let q : g ≡ f = cc in ap Err q
 
 module _ (c : Cursor) (p : PlanNumbers) where
-  pub plan-ends : (most : ℕ) → 0 < most → next-from c ≡ Ok None → plan-from most c p ≡ Ok p
-  plan-ends zero some e = absurd (omega arith)
-  plan-ends (suc most) some e =
-      ap (λ x. on-next p x (λ s. plan-from most (moved-on c (Ok (Some s))) (with-item p (s .handed .item)))) e
-
-  pub plan-refused : (most : ℕ) (f : FileFault) → 0 < most → next-from c ≡ Err f → plan-from most c p ≡ Err f
-  plan-refused zero f some e = absurd (omega arith)
-  plan-refused (suc most) f some e =
-      ap (λ x. on-next p x (λ s. plan-from most (moved-on c (Ok (Some s))) (with-item p (s .handed .item)))) e
+  -- the next step tells how the plan goes on
+  one-step : (most : ℕ) (x : Result (Option Stepped) FileFault) → next-from c ≡ x →
+      plan-from (suc most) c p
+      ≡ on-next p x (λ s. plan-from most (moved-on c (Ok (Some s))) (with-item p (s .handed .item)))
+  one-step most x e =
+      ap (λ y. on-next p y (λ s. plan-from most (moved-on c (Ok (Some s))) (with-item p (s .handed .item)))) e
 
   pub plan-goes-on : (most : ℕ) (s : Stepped) → next-from c ≡ Ok (Some s) →
       plan-from (suc most) c p ≡ plan-from most (moved-on c (Ok (Some s))) (with-item p (s .handed .item))
-  plan-goes-on most s e =
-      ap (λ x. on-next p x (λ s. plan-from most (moved-on c (Ok (Some s))) (with-item p (s .handed .item)))) e
+  plan-goes-on most s e = one-step most (Ok (Some s)) e
+
+  pub plan-ends : (most : ℕ) → 0 < most → next-from c ≡ Ok None → plan-from most c p ≡ Ok p
+  plan-ends zero some e = absurd (omega arith)
+  plan-ends (suc most) some e = one-step most (Ok None) e
+
+  pub plan-refused : (most : ℕ) (f : FileFault) → 0 < most → next-from c ≡ Err f → plan-from most c p ≡ Err f
+  plan-refused zero f some e = absurd (omega arith)
+  plan-refused (suc most) f some e = one-step most (Err f) e
 
 -- the records from a cursor on complete a plan of the file
 abbrev pub Completes : List ℕ → Cursor → PlanNumbers → Result PlanNumbers FileFault → Type 0

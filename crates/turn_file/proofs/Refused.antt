@@ -15,7 +15,7 @@ use Rattle.std.specs.declared.result.Result.the-variants.{Ok, Err}
 use Rattle.turn_file.specs.declared.fault.FileFault.{FileFault}
 use Rattle.turn_file.specs.declared.fault.FileFault.the-variants.{TrailingByte}
 use Rattle.turn_file.specs.declared.fault.NumberFault.{NumberFault}
-use Rattle.turn_file.specs.declared.fault.NumberFault.the-variants.{Padded, TooLarge}
+use Rattle.turn_file.specs.declared.fault.NumberFault.the-variants.{Ends, Padded, TooLarge}
 use Rattle.turn_file.specs.declared.fault.RecordFault.{RecordFault}
 use Rattle.turn_file.specs.declared.fault.RecordFault.the-variants as fault
 use Rattle.turn_file.specs.declared.fault.RecordKind.{RecordKind}
@@ -51,11 +51,7 @@ judged-place at next b group.More r e behind is = behind e (before-err b r e is)
 groups-place : (at left next : ℕ) (bytes : List ℕ) (e : NumberFault) → groups at left next bytes ≡ Err e →
     number-place e ≡ at
 groups-place at zero next bytes e is = let same : TooLarge at ≡ e = cc in ap number-place (sym same)
-groups-place at (suc left) next [] e is = let q = is in ap (λ (r : Result (ℕ × ℕ) NumberFault). place-in at r) (sym is)
-  where
-    place-in : ℕ → Result (ℕ × ℕ) NumberFault → ℕ
-    place-in d (Ok n) = d
-    place-in d (Err f) = number-place f
+groups-place at (suc left) next [] e is = let same : Ends at ≡ e = cc in ap number-place (sym same)
 groups-place at (suc left) next (b ∷ bytes) e is =
     judged-place at (next + 1) b (group-of b left) (groups at left (next + 1) bytes) e
     (λ f. groups-place at left (next + 1) bytes f) is

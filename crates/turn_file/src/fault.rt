@@ -62,7 +62,7 @@ pub enum RecordFault {
     },
 }
 
-// A faulty record, or a file, a holder list or an output of the wrong length.
+// A faulty record, or a file or an output of the wrong length.
 #[derive(Clone, Copy, PartialEq, Eq, Debug)]
 pub enum FileFault {
     Record { fault: RecordFault },

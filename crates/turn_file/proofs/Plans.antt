@@ -72,19 +72,17 @@ module _ (file : List ℕ) (c : Cursor) (p : PlanNumbers) (whole : Result PlanNu
   takes s e = let t = next-takes (c .file) (c .place) (c .stage) s e in
       (t .0, subst (λ f. s .next ≤ length f) (h .0) (t .1))
 
-  pub goes-on : (s : Stepped) → next-from c ≡ Ok (Some s) →
-      Completes file (moved-on c (Ok (Some s))) (with-item p (s .handed .item)) whole
-  goes-on s e =
+  pub goes-on : (s : Stepped) (d : Cursor) (q : PlanNumbers) → next-from c ≡ Ok (Some s) →
+      d ≡ moved-on c (Ok (Some s)) → q ≡ with-item p (s .handed .item) → Completes file d q whole
+  goes-on s d q e there more =
       let t = takes s e in
       let k = h .1 .1 in
-      let one : h .1 .0 ≡ suc (h .1 .0 - 1) = omega arith in (
-        h .0,
-        (
-          h .1 .0 - 1,
-          omega arith,
-          sym (plan-goes-on c p (h .1 .0 - 1) s e) ∙ ap (λ n. plan-from n c p) (sym one)
-              ∙ h .1 .2,
-        ),
+      let less : ℕ = h .1 .0 - 1 in
+      let one : h .1 .0 ≡ suc less = omega arith in
+      let at : d .place ≡ s .next = ap (λ (x : Cursor). x .place) there in
+      let onward = ap (λ x. plan-from less x q) there ∙ ap (plan-from less (moved-on c (Ok (Some s)))) more in (
+        ap (λ (x : Cursor). x .file) there ∙ h .0,
+        (less, omega arith, onward ∙ sym (plan-goes-on c p less s e) ∙ ap (λ n. plan-from n c p) (sym one) ∙ h .1 .2),
       )
 
 -- at the beginning

@@ -1,5 +1,5 @@
 use Prim.Native.Nat.{_-_}
-use mathlib.Core.Path.{_≡_, refl, sym, ap, subst, _∙_}
+use mathlib.Core.Path.{_≡_, refl, sym, ap, _∙_}
 use native.Mathlib.Omega.{arith}
 use Rattle.std.proofs.shelf.Results.{err-from-errBy}
 use Rattle.std.specs.declared.option.Option.the-variants.{Some}
@@ -7,7 +7,7 @@ use Rattle.std.specs.declared.result.Result.the-variants.{Ok, Err}
 use Rattle.turn_file.specs.Plan.{plan-numbers, plan-of, with-item}
 use Rattle.turn_file.specs.Reading.{Handed, Stepped, Cursor, cursor-of, next-from, moved-on, seen-record, seen-answer}
 use Rattle.turn_file.proofs.Orders.{told}
-use Rattle.turn_file.proofs.Plans.{Completes, handed-some, handed-none, handed-fault, not-opened, begins, completed}
+use Rattle.turn_file.proofs.Plans.{handed-some, handed-none, handed-fault, not-opened, begins, completed}
 use Rattle.turn_file.proofs.Plans.{refused, takes, goes-on}
 use Rattle.turn_file.proofs.plan_reader.read_plan.Needs as need
 
@@ -55,13 +55,10 @@ loop-record-less c =
 
 pub loop-record-again : need.loop-record-again
 loop-record-again c =
-    let file = c .args .file .now in
-    let on = goes-on file _ _ _ (c .loop-record .inv) (made-step c .0) (made-step c .1) in
-    let entered = ap (λ (h : Handed). with-item (plan-numbers (c .loop-record .read)) (h .item)) (made-step c .2)
-    ∙ sym (c .enter .ensures) in
-    subst (λ d. Completes file d (plan-numbers (c .enter .last .self)) (plan-of file)) (sym (moved c))
-    (subst (λ p. Completes file (moved-on (cursor-of (c .loop-record .reader)) (Ok (Some (made-step c .0)))) p
-    (plan-of file)) entered on)
+    let entered = c .enter .ensures
+    ∙ ap (λ (h : Handed). with-item (plan-numbers (c .loop-record .read)) (h .item)) (sym (made-step c .2)) in
+    goes-on (c .args .file .now) _ _ _ (c .loop-record .inv) (made-step c .0) (cursor-of (c .next-record .last .self))
+    (plan-numbers (c .enter .last .self)) (made-step c .1) (moved c) entered
 
 pub returns : need.returns
 returns c =

@@ -269,7 +269,10 @@ def numbers_file(*numbers):
 
 
 def limit_files():
-    """Values at and past each limit. Many files stop right behind the value, so that an accepted value ends in cause 1."""
+    """Values at and past each limit.
+
+    Many files stop right behind the value, so that an accepted value ends in cause 1.
+    """
     file = numbers_file
     huge = 2**32 - 1
     for levels in (0, 1, 2, 3, 4, 5, 64, 127, 128, 129, 2**14, 2**28 + 1, huge):
@@ -282,7 +285,8 @@ def limit_files():
         yield file(1, TICKET, fan_out)
         yield file(2, TICKET, 64, MCS, fan_out)
         yield file(2, TICKET, 2, MCS, fan_out)
-    for first, second in ((8, 8), (8, 9), (9, 8), (16, 4), (16, 5), (7, 9), (7, 10), (1, 64), (1, 65), (32, 2**27), (64, 2**26), (64, 2**26 + 1)):
+    products = [(8, 8), (8, 9), (9, 8), (16, 4), (16, 5), (7, 9), (7, 10), (1, 64), (1, 65)]
+    for first, second in products + [(32, 2**27), (64, 2**26), (64, 2**26 + 1)]:
         yield file(2, MCS, first, TICKET, second, 1)
         yield file(3, MCS, first, TICKET, second, 1, TICKET, 1, 1)
         yield file(4, MCS, 1, TICKET, first, 1, TICKET, second, 1, TICKET, 2, 1)
@@ -326,7 +330,11 @@ def good_plans():
         HANDOFF,
         Plan([(MCS, 1, None)], [(0, 0, 0)], []),
         Plan([(MCS, 1, None), (TICKET, 2, 300), (MCS, 1, 65_535)], [(65_535, 128, 0), (127, 16_384, 1)], [1, 0, 1]),
-        Plan([(TICKET, 1, None), (MCS, 2, 1), (TICKET, 1, 2), (MCS, 3, 3)], [(n, n + 1, n + 2) for n in range(6)], [5, 4, 3, 2, 1, 0]),
+        Plan(
+            [(TICKET, 1, None), (MCS, 2, 1), (TICKET, 1, 2), (MCS, 3, 3)],
+            [(n, n + 1, n + 2) for n in range(6)],
+            [5, 4, 3, 2, 1, 0],
+        ),
         Plan([(MCS, 64, None)], [(1, 1, 1)] * 64, [63, 0, 62, 1]),
         Plan([(MCS, 4, None), (TICKET, 4, 8), (TICKET, 4, 2)], [(2, 2, 2)] * 64, [0, 1, 2, 3, 60, 61, 62, 63]),
         Plan([(TICKET, 3, None)], [(7, 8, 9)] * 3, [0] * 50 + [1] * 50 + [2] * 50),

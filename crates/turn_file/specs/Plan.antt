@@ -66,9 +66,9 @@ with-item p (script worker s) =
     record { count = p .count; levels = p .levels; scripts = put 64 (p .scripts) worker s; entries = p .entries }
 with-item p (schedule es) = record { count = p .count; levels = p .levels; scripts = p .scripts; entries = es }
 
--- the same, of a record of the code
-abbrev pub with-record : PlanNumbers → Record → PlanNumbers
-with-record p r = with-item p (seen-record r .item)
+-- the same, of a plan and a record of the code
+abbrev pub with-record : Plan → Record → PlanNumbers
+with-record p r = with-item (plan-numbers p) (seen-record r .item)
 
 -- the plan is whole where no record is left
 abbrev pub on-next : PlanNumbers → Result (Option Stepped) FileFault → (Stepped → Result PlanNumbers FileFault) →

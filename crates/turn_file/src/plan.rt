@@ -10,7 +10,8 @@ pub enum Algorithm {
 }
 
 // A level of the stack. Each party of the level above has a lane here, and each lane `fan_out` members.
-// After `handoff_limit` turns in a row a lane gives the upper lock back; the top level has no limit, and 0 in its place.
+// After `handoff_limit` turns in a row a lane gives the upper lock back.
+// The top level has no limit, and 0 in its place.
 #[derive(Clone, Copy, PartialEq, Eq, Debug)]
 pub struct Level {
     pub algorithm: Algorithm,

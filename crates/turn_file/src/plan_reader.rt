@@ -12,7 +12,7 @@ use crate::record::Record;
 impl<'a> Plan<'a> {
     // Enters what a record says.
     fn enter(&mut self, record: Record<'a>)
-        ensures { λ _. ⌜ plan-numbers (now (self .exit)) ≡ with-record (plan-numbers (now (self .entry))) («record» .entry) ⌝ }
+        ensures { λ _. ⌜ plan-numbers (now (self .exit)) ≡ with-record (now (self .entry)) («record» .entry) ⌝ }
     {
         match record {
             Record::Levels { count, .. } => self.level_count = count,

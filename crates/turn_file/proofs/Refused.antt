@@ -102,7 +102,7 @@ limit-place rank file at g is =
       | inr t ↦ field-place kind.Level bad-limit (fault.HandoffLimit at) file at g refl (simp (t .0) at is)
     ]
 
--- a place of the record that begins at `at`, or the file's end
+-- a place at `at` or behind it, and not past the file's end
 abbrev pub Lies : List ℕ → ℕ → ℕ → Type 0
 Lies file at place = (at ≤ place) × (place ≤ length file)
 

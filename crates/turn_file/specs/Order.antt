@@ -75,8 +75,8 @@ pub record Whole (file : List ℕ) (p : PlanNumbers) : Type 0 where
   pub only : (others : List Item) → In-order stage.Levels others stage.End → file ≡ spelling others → others ≡ records
 
 -- The first fault of a file: the records before it are spelled from the beginning up to a place, where the next record
--- is refused, and the fault lies in that record. However else records are read from the beginning on, they are
--- some of those; and the file is not the spellings of any records.
+-- is refused, and the fault lies at that place or behind it, and not past the file's end. However else records are
+-- read from the beginning on, they are some of those; and the file is not the spellings of any records.
 pub record First-fault (file : List ℕ) (fault : FileFault) : Type 0 where
   pub records : List Item
   pub place : ℕ

@@ -1,4 +1,4 @@
--- The lines of a schedule, which have 32 entries each but the last. Assumes nothing.
+-- The lines of a schedule, which have 32 entries each but the last.
 use mathlib.Core.Path.{_≡_, refl, sym, ap, _∙_}
 use mathlib.Core.Logic.{⊎-elim}
 use mathlib.Core.List.{List, [], _∷_, _++_, append-nil}
@@ -6,12 +6,9 @@ use Prim.Native.Nat.{ℕ, zero, suc, _≤_, _<_, min}
 use native.Mathlib.Omega.{arith}
 use lib.Chars.{codes}
 use lib.ListN.{length, take, drop, length-append}
-use Rattle.std.proofs.shelf.Lists.{take-all, drop-all, take-append-le, drop-append-le}
-use Rattle.std.proofs.str.Laws.{order}
+use Rattle.std.proofs.shelf.Lists.{nil-from-length, take-all, drop-all, take-append-le, drop-append-le}
+use Rattle.std.proofs.shelf.Tests.{cases-lt}
 use Rattle.inspect.specs.Text.{schedule-text, entry-lines, schedule-lines}
-
-no-length : (es : List ℕ) → length es ≡ 0 → es ≡ []
-no-length es none = sym (take-all 0 es (omega arith))
 
 -- a front of 32 entries, or of all
 cut-at : (es line next : List ℕ) → es ≡ line ++ next → length line ≡ min 32 (length es) → (take 32 es ≡ line)
@@ -20,7 +17,7 @@ cut-at es line next cut long =
     let parts = ap length cut ∙ length-append line next in
     ⊎-elim
     (λ few.
-    let none = no-length next (omega arith) in (
+    let none = nil-from-length next (omega arith) in (
       take-all 32 es (omega arith) ∙ cut ∙ ap (λ l. line ++ l) none ∙ append-nil line,
       drop-all 32 es (omega arith)
           ∙ sym none,
@@ -30,7 +27,7 @@ cut-at es line next cut long =
       ap (drop 32) cut
           ∙ drop-append-le 32 line next (omega arith) ∙ ap (λ l. l ++ next) (drop-all 32 line (omega arith)),
     ))
-    (order (length es) 32)
+    (cases-lt (length es) 32)
 
 pub next-line : (most : ℕ) (es line next : List ℕ) → 0 < length es → length es ≤ most → es ≡ line ++ next →
     length line ≡ min 32 (length es) → (more : ℕ) × (length next ≤ more)

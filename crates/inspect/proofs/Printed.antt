@@ -1,4 +1,4 @@
--- Text that a loop prints item by item. Assumes nothing.
+-- Text that a loop prints item by item.
 use mathlib.Core.Path.{_≡_, refl, sym, ap, _∙_}
 use mathlib.Core.List.{List, [], _++_, append-nil, append-assoc}
 use Prim.Native.Nat.{ℕ}

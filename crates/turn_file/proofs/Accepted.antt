@@ -26,6 +26,10 @@ limit-ok rank file at n e =
           (t .1, f .0, f .1))
     ]
 
+pub fan-out-ok : (parties : ℕ) (file : List ℕ) (at : ℕ) (n : ℕ × ℕ) → fan-out-at parties file at ≡ Ok n →
+    (number-at file at ≡ Ok n) × (bad-fan-out parties (n .0) ≡ false)
+fan-out-ok parties file at n e = field-ok kind.Level (bad-fan-out parties) (fault.FanOut at) file at n e
+
 -- the numbers of an accepted level
 pub record LevelFields (rank parties : ℕ) (file : List ℕ) (at : ℕ) (l : Level) (to : ℕ) : Type 0 where
   pub at-fan-out : ℕ
@@ -43,7 +47,7 @@ level-ok rank parties file at l e =
     let h = bind-ok (limit-at rank file (f .0 .1)) _ l (f .2) in
     let read : Level × ℕ = (record { algorithm = a .0 .0; «fan_out» = f .0 .0; «handoff_limit» = h .0 .0 }, h .0 .1) in
     let same : read ≡ l = let s = h .2 in cc in
-    let fan = field-ok kind.Level (bad-fan-out parties) (fault.FanOut (a .0 .1)) file (a .0 .1) (f .0) (f .1) in
+    let fan = fan-out-ok parties file (a .0 .1) (f .0) (f .1) in
     subst (λ m. LevelFields rank parties file at (m .0) (m .1)) same (record {
       at-fan-out = a .0 .1;
       at-limit = f .0 .1;
@@ -61,8 +65,8 @@ pub record ScriptFields (file : List ℕ) (at : ℕ) (s : Script) (to : ℕ) : T
   pub rest : (number-at file at-rest ≡ Ok (s .rest, at-hold)) × (bad-script-number (s .rest) ≡ false)
   pub hold : (number-at file at-hold ≡ Ok (s .hold, to)) × (bad-script-number (s .hold) ≡ false)
 
-script-number-ok : (file : List ℕ) (at : ℕ) (n : ℕ × ℕ) → script-number-at file at ≡ Ok n → (number-at file at ≡ Ok n)
-    × (bad-script-number (n .0) ≡ false)
+pub script-number-ok : (file : List ℕ) (at : ℕ) (n : ℕ × ℕ) → script-number-at file at ≡ Ok n →
+    (number-at file at ≡ Ok n) × (bad-script-number (n .0) ≡ false)
 script-number-ok file at n e = field-ok kind.Script bad-script-number (fault.ScriptNumber at) file at n e
 
 pub script-ok : (file : List ℕ) (at : ℕ) (s : Script × ℕ) → script-at file at ≡ Ok s →
@@ -81,8 +85,8 @@ script-ok file at s e =
       hold = script-number-ok file (r .0 .1) (h .0) (h .1);
     })
 
-pub levels-ok : (file : List ℕ) (at : ℕ) (n : ℕ × ℕ) → levels-at file at ≡ Ok n → (number-at file at ≡ Ok n)
-    × (bad-levels (n .0) ≡ false)
+pub levels-ok : (file : List ℕ) (at : ℕ) (n : ℕ × ℕ) → levels-at file at ≡ Ok n →
+    (number-at file at ≡ Ok n) × (bad-levels (n .0) ≡ false)
 levels-ok file at n e = field-ok kind.Levels bad-levels (fault.LevelCount at) file at n e
 
 pub entry-ok : (workers : ℕ) (file : List ℕ) (at : ℕ) (n : ℕ × ℕ) → entry-at workers file at ≡ Ok n →

@@ -1,14 +1,15 @@
 -- A record that may come is handed out where its spelling stands.
-use Prim.Native.Nat.{ℕ, zero, suc, _+_, _*_, _-_, _^_, _≤_, _<_}
+use Prim.Native.Nat.{ℕ, _+_, _*_, _-_, _^_, _≤_, _<_}
 use mathlib.Core.Path.{_≡_, refl, sym, ap, subst, _∙_}
 use mathlib.Core.Bool.{true, false, cond}
 use mathlib.Core.List.{List, [], _∷_}
 use mathlib.Core.Logic.{_⊎_, inl, inr}
-use native.Mathlib.Nat.{suc-mul}
+use native.Mathlib.Nat.{le-mul-of-pos-right, mul-comm}
 use native.Mathlib.Omega.{arith}
 use lib.Dec.{eqb}
 use lib.ListN.{length}
 use Rattle.std.proofs.shelf.Ways.{tells}
+use Rattle.std.specs.Holes.{between}
 use Rattle.std.specs.Joined.{joined}
 use Rattle.std.specs.Vec.{Every}
 use Rattle.std.specs.declared.option.Option.the-variants.{Some}
@@ -24,7 +25,7 @@ use Rattle.turn_file.specs.declared.plan.Script.{Script}
 use Rattle.turn_file.specs.declared.step.Stage.{Stage}
 use Rattle.turn_file.specs.declared.step.Stage.the-variants as stage
 use Rattle.turn_file.specs.Order.{record-spelling, Level-fits, Script-fits, Comes}
-use Rattle.turn_file.specs.Reading.{Item, level, script, schedule, Stepped, between, in-order, next-step}
+use Rattle.turn_file.specs.Reading.{Item, level, script, schedule, Stepped, in-order, next-step}
 use Rattle.turn_file.specs.Record.{bind, judge, with-kind, bad-levels, levels-at, algorithm-number}
 use Rattle.turn_file.specs.Record.{bad-fan-out, fan-out-at, bad-limit, limit-at, level-at, bad-script-number}
 use Rattle.turn_file.specs.Record.{script-number-at, script-at, bad-entry, entries-end, schedule-at}
@@ -38,8 +39,7 @@ algorithm-small Ticket = omega arith
 algorithm-small Mcs = omega arith
 
 small-factor : (p n : ℕ) → 1 ≤ p → p * n ≤ 64 → n ≤ 64
-small-factor zero n some few = absurd (omega arith)
-small-factor (suc p) n some few = omega (arith, suc-mul p n)
+small-factor p n some few = omega (arith, le-mul-of-pos-right n some, mul-comm n p)
 
 bind-is : {A B : Type 0} (next : A → Result B RecordFault) {r : Result A RecordFault} {a : A} {b : B} →
     r ≡ Ok a → next a ≡ Ok b → bind r next ≡ Ok b

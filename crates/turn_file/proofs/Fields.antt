@@ -51,6 +51,10 @@ algorithm-of-ok : (n : ℕ) (f : RecordFault) (a : Algorithm) → algorithm-of n
 algorithm-of-ok n f Ticket e = grind (arith, tells)
 algorithm-of-ok n f Mcs e = grind (arith, tells)
 
+algorithm-of-is : (a : Algorithm) (f : RecordFault) → algorithm-of (algorithm-number a) f ≡ Ok a
+algorithm-of-is Ticket f = refl
+algorithm-of-is Mcs f = refl
+
 module _ (file : List ℕ) (at : ℕ) where
   pub algorithm-ok : (a : Algorithm × ℕ) → algorithm-at file at ≡ Ok a →
       number-at file at ≡ Ok (algorithm-number (a .0), a .1)
@@ -64,12 +68,10 @@ module _ (file : List ℕ) (at : ℕ) where
 
   pub algorithm-is : (a : Algorithm) (to : ℕ) → number-at file at ≡ Ok (algorithm-number a, to) →
       algorithm-at file at ≡ Ok (a, to)
-  algorithm-is Ticket to found =
+  algorithm-is a to found =
       ap (λ r. judge (with-kind kind.Level r)
-      (λ n. bind (algorithm-of (n .0) (fault.Algorithm at)) (λ a. Ok (a, n .1)))) found
-  algorithm-is Mcs to found =
-      ap (λ r. judge (with-kind kind.Level r)
-      (λ n. bind (algorithm-of (n .0) (fault.Algorithm at)) (λ a. Ok (a, n .1)))) found
+      (λ n. bind (algorithm-of (n .0) (fault.Algorithm at)) (λ b. Ok (b, n .1)))) found
+      ∙ ap (λ x. bind x (λ b. Ok (b, to))) (algorithm-of-is a (fault.Algorithm at))
 
 pub fan-out-fits : (parties n : ℕ) → bad-fan-out parties n ≡ false → (1 ≤ n) × (parties * n ≤ 64)
 fan-out-fits parties n e = (grind (arith, tells), grind (arith, tells))

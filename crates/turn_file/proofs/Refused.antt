@@ -1,5 +1,5 @@
 -- A fault lies at a number of the record that is refused.
-use Prim.Native.Nat.{ℕ, zero, suc, _+_, _-_, _≤_, _<_}
+use Prim.Native.Nat.{ℕ, zero, suc, _+_, _-_, _≤_}
 use mathlib.Core.Path.{_≡_, refl, sym, ap, subst, _∙_}
 use mathlib.Core.Bool.{Bool, true, false, cond}
 use mathlib.Core.List.{List, [], _∷_}
@@ -33,7 +33,8 @@ use Rattle.turn_file.specs.Record.{bind, judge, with-kind, field-at, levels-at
 use Rattle.turn_file.specs.Record.{bad-levels, bad-fan-out, bad-limit, bad-script-number, bad-entry}
 use Rattle.turn_file.specs.Record.{limit-at, level-at, script-number-at, script-at, entry-at, entries-end, schedule-at}
 use Rattle.turn_file.proofs.Apart.{not-both}
-use Rattle.turn_file.proofs.Fields.{field-ok, algorithm-ok}
+use Rattle.turn_file.proofs.Accepted.{fan-out-ok, script-number-ok, entry-ok}
+use Rattle.turn_file.proofs.Fields.{algorithm-ok}
 use Rattle.turn_file.proofs.Spelled.{number-within}
 
 -- a faulty number: the place is that of its first byte
@@ -118,9 +119,7 @@ level-lies rank parties file at g before is =
                 let e = field-place kind.Level (bad-fan-out parties) (fault.FanOut (a .0 .1)) file (a .0 .1) g refl p in
                 (omega arith, omega arith)
             | inr f ↦
-                let v = number-within file (a .0 .1) (f .0)
-                (field-ok kind.Level (bad-fan-out parties) (fault.FanOut (a .0 .1)) file (a .0 .1) (f .0)
-                (f .1) .0) in
+                let v = number-within file (a .0 .1) (f .0) (fan-out-ok parties file (a .0 .1) (f .0) (f .1) .0) in
                 elim (bind-err (limit-at rank file (f .0 .1)) _ g (f .2)) [
                   | inl p ↦ let e = limit-place rank file (f .0 .1) g p in (omega arith, omega arith)
                   | inr h ↦ absurd (not-both (h .2))
@@ -132,21 +131,17 @@ module _ (file : List ℕ) where
   script-number-place : (at : ℕ) (g : RecordFault) → script-number-at file at ≡ Err g → record-place g ≡ at
   script-number-place at g is = field-place kind.Script bad-script-number (fault.ScriptNumber at) file at g refl is
 
-  script-number-within : (at : ℕ) (n : ℕ × ℕ) → script-number-at file at ≡ Ok n → (at < n .1) × (n .1 ≤ length file)
-  script-number-within at n is =
-      number-within file at n (field-ok kind.Script bad-script-number (fault.ScriptNumber at) file at n is .0)
-
   script-lies : (at : ℕ) (g : RecordFault) → at ≤ length file → script-at file at ≡ Err g →
       Lies file at (record-place g)
   script-lies at g before is =
       elim (bind-err (script-number-at file at) _ g is) [
         | inl p ↦ let e = script-number-place at g p in (omega arith, omega arith)
         | inr t ↦
-            let w = script-number-within at (t .0) (t .1) in
+            let w = number-within file at (t .0) (script-number-ok file at (t .0) (t .1) .0) in
             elim (bind-err (script-number-at file (t .0 .1)) _ g (t .2)) [
               | inl p ↦ let e = script-number-place (t .0 .1) g p in (omega arith, omega arith)
               | inr r ↦
-                  let v = script-number-within (t .0 .1) (r .0) (r .1) in
+                  let v = number-within file (t .0 .1) (r .0) (script-number-ok file (t .0 .1) (r .0) (r .1) .0) in
                   elim (bind-err (script-number-at file (r .0 .1)) _ g (r .2)) [
                     | inl p ↦ let e = script-number-place (r .0 .1) g p in (omega arith, omega arith)
                     | inr h ↦ absurd (not-both (h .2))
@@ -163,8 +158,7 @@ module _ (file : List ℕ) where
             let e = field-place kind.Schedule (bad-entry workers) (fault.Entry at) file at g refl p in
             (omega arith, omega arith)
         | inr n ↦
-            let w = number-within file at (n .0)
-            (field-ok kind.Schedule (bad-entry workers) (fault.Entry at) file at (n .0) (n .1) .0) in
+            let w = number-within file at (n .0) (entry-ok workers file at (n .0) (n .1) .0) in
             let m = entries-lie count workers (n .0 .1) g (w .1) (n .2) in
             (omega arith, m .1)
       ]

@@ -4,12 +4,13 @@ use mathlib.Core.Path.{_≡_, refl, sym, ap, subst, _∙_}
 use mathlib.Core.Bool.{Bool, true, false, cond}
 use mathlib.Core.List.{List, [], _∷_, _++_}
 use mathlib.Core.Logic.{_⊎_, inl, inr}
-use native.Mathlib.Nat.{suc-mul}
+use native.Mathlib.Nat.{one-le-mul}
 use native.Mathlib.Omega.{arith}
 use lib.Dec.{eqb, ltb}
 use lib.ListN.{length, take, drop}
 use Rattle.std.proofs.shelf.Lists.{take-at}
 use Rattle.std.proofs.shelf.Ways.{tells}
+use Rattle.std.specs.Holes.{between}
 use Rattle.std.specs.Joined.{joined}
 use Rattle.std.specs.Vec.{Every}
 use Rattle.std.specs.declared.option.Option.the-variants.{Some}
@@ -19,7 +20,7 @@ use Rattle.turn_file.specs.declared.plan.Script.{Script}
 use Rattle.turn_file.specs.declared.step.Stage.{Stage}
 use Rattle.turn_file.specs.declared.step.Stage.the-variants as stage
 use Rattle.turn_file.specs.Order.{record-spelling, Level-fits, Script-fits, Comes}
-use Rattle.turn_file.specs.Reading.{level, script, schedule, Stepped, between, after-level, after-script}
+use Rattle.turn_file.specs.Reading.{level, script, schedule, Stepped, after-level, after-script}
 use Rattle.turn_file.specs.Reading.{levels-step, level-step, script-step, schedule-step, next-step}
 use Rattle.turn_file.specs.Record.{limit-at, levels-at, level-at, bad-script-number, script-at}
 use Rattle.turn_file.specs.Record.{entry-at, entries-end, schedule-at}
@@ -133,10 +134,6 @@ few-after-level rank count parties some few = at-test (ltb rank (count - 1))
     at-test true = some
     at-test false = few
 
-some-product : (p n : ℕ) → 1 ≤ p → 1 ≤ n → 1 ≤ p * n
-some-product (suc p) n some more = omega (arith, suc-mul p n)
-some-product zero n some more = absurd (omega arith)
-
 few-after-script : (worker workers : ℕ) → workers ≤ 64 → Few (after-script worker workers)
 few-after-script worker workers few = at-test (ltb worker (workers - 1))
   where
@@ -167,7 +164,7 @@ next-sound file at (stage.Level rank count parties) s each few e =
     of-step (Sound-step file at (stage.Level rank count parties)) _ s (b .2) (record {
       comes = (b .0 .0, refl, k .0, refl);
       stands = k .1;
-      few = few-after-level rank count (parties * b .0 .0 .«fan_out») (some-product parties _ few (k .0 .some))
+      few = few-after-level rank count (parties * b .0 .0 .«fan_out») (one-le-mul few (k .0 .some))
           (k .0 .few);
     })
 next-sound file at (stage.Script worker workers) s each few e =

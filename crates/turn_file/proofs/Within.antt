@@ -45,13 +45,13 @@ script-takes file at s e =
     let h = number-within file (f .at-hold) _ (f .hold .0) in
     (omega arith, h .1)
 
-entries-lie : (count workers : ℕ) (file : List ℕ) (at to : ℕ) → entries-end count workers file at ≡ Ok to →
+entries-within : (count workers : ℕ) (file : List ℕ) (at to : ℕ) → entries-end count workers file at ≡ Ok to →
     at ≤ length file → (at ≤ to) × (to ≤ length file)
-entries-lie zero workers file at to e before = let same : at ≡ to = cc in (omega arith, omega arith)
-entries-lie (suc count) workers file at to e before =
+entries-within zero workers file at to e before = let same : at ≡ to = cc in (omega arith, omega arith)
+entries-within (suc count) workers file at to e before =
     let b = bind-ok (entry-at workers file at) _ to e in
     let w = number-within file at (b .0) (entry-ok workers file at (b .0) (b .1) .0) in
-    let m = entries-lie count workers file (b .0 .1) to (b .2) (w .1) in
+    let m = entries-within count workers file (b .0 .1) to (b .2) (w .1) in
     (omega arith, m .1)
 
 -- the entries begin after the count
@@ -60,5 +60,5 @@ pub schedule-takes : (workers : ℕ) (file : List ℕ) (at : ℕ) (e : ℕ × �
 schedule-takes workers file at e h =
     let f = schedule-ok workers file at e h in
     let w = number-within file at _ (f .counted) in
-    let m = entries-lie (f .count) workers file (e .0) (e .1) (f .entries) (w .1) in
+    let m = entries-within (f .count) workers file (e .0) (e .1) (f .entries) (w .1) in
     (w .0, m .0, m .1)

@@ -3,7 +3,8 @@ use Prim.Native.Nat.{ℕ, _+_, _-_, _*_}
 use mathlib.Core.Bool.{cond}
 use mathlib.Core.List.{List}
 use lib.Dec.{ltb}
-use lib.ListN.{length, take, drop}
+use lib.ListN.{length}
+use Rattle.std.specs.Holes.{between}
 use Rattle.std.specs.declared.option.Option.{Option}
 use Rattle.std.specs.declared.option.Option.the-variants.{Some, None}
 use Rattle.std.specs.declared.result.Result.{Result}
@@ -40,10 +41,6 @@ pub record Stepped : Type 0 where
   pub handed : Handed
   pub next : ℕ
   pub stage : Stage
-
--- the bytes from one place up to another
-abbrev pub between : ℕ → ℕ → List ℕ → List ℕ
-between from to file = take (to - from) (drop from file)
 
 -- the step past a record
 abbrev pub step : Item → List ℕ → ℕ → ℕ → Stage → Result Stepped RecordFault
@@ -103,12 +100,15 @@ seen-record (rec.Schedule part) =
     record { item = schedule (part .bytes .now); place = part .place; bytes = part .bytes .now }
 
 -- what the answers of the code say
+abbrev pub seen : Step → Stepped
+seen s = record { handed = seen-record (s .record); next = s .next; stage = s .stage }
+
 abbrev pub seen-step : Result Step RecordFault → Result Stepped RecordFault
-seen-step (Ok s) = Ok (record { handed = seen-record (s .record); next = s .next; stage = s .stage })
+seen-step (Ok s) = Ok (seen s)
 seen-step (Err f) = Err f
 
 abbrev pub seen-next : Result (Option Step) FileFault → Result (Option Stepped) FileFault
-seen-next (Ok (Some s)) = Ok (Some (record { handed = seen-record (s .record); next = s .next; stage = s .stage }))
+seen-next (Ok (Some s)) = Ok (Some (seen s))
 seen-next (Ok None) = Ok None
 seen-next (Err f) = Err f
 

@@ -2,7 +2,8 @@
 ghost use mathlib.Core.Path.{_≡_};
 ghost use Prim.Native.Nat.{_≤_};
 ghost use lib.ListN.{length};
-ghost use Rattle.turn_file.specs.Reading.{between, after-level, after-script, seen-step, seen-next};
+ghost use Rattle.std.specs.Holes.{between};
+ghost use Rattle.turn_file.specs.Reading.{after-level, after-script, seen-step, seen-next};
 ghost use Rattle.turn_file.specs.Reading.{levels-step, level-step, script-step, schedule-step, next-step};
 use crate::fault::FileFault;
 use crate::fault::FileFaultFromRecord;

@@ -1,4 +1,6 @@
 // Reads the text of a turn file on standard input, and writes the file on standard output.
+#![tactic(auto)]
+
 mod composition;
 mod failure;
 mod lines;

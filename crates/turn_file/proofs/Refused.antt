@@ -1,5 +1,5 @@
 -- A fault lies at a number of the record that is refused.
-use Rattle.std.proofs.Common.{◌≡◌, ℕ, zero, suc, ◌+◌, ◌-◌, ◌≤◌, Bool, true, false, cond, ltb, ◌⊎◌, List, [], ◌∷◌, length, drop, None, Ok, Err, Option, Result, sym, refl, ap, ◌∙◌, subst, inl, inr, arith}
+use Rattle.std.proofs.Common.{◌≡◌, ℕ, zero, suc, ◌+◌, ◌≤◌, Bool, true, false, cond, ltb, ◌⊎◌, List, [], ◌∷◌, length, drop, None, Ok, Err, Option, Result, sym, refl, ap, ◌∙◌, subst, inl, inr, arith}
 use Rattle.std.proofs.lemmas.Bool.Decides.{nat_tests, eqb_tells}
 use Rattle.turn_file.specs.declared.fault.FileFault.{FileFault}
 use Rattle.turn_file.specs.declared.fault.FileFault.TheVariants.{TrailingByte}
@@ -9,14 +9,13 @@ use Rattle.turn_file.specs.declared.fault.RecordFault.{RecordFault}
 use Rattle.turn_file.specs.declared.fault.RecordFault.TheVariants as fault
 use Rattle.turn_file.specs.declared.fault.RecordKind.{RecordKind}
 use Rattle.turn_file.specs.declared.fault.RecordKind.TheVariants as kind
-use Rattle.turn_file.specs.declared.plan.Algorithm.{Algorithm}
 use Rattle.turn_file.specs.declared.step.Stage.{Stage}
 use Rattle.turn_file.specs.declared.step.Stage.TheVariants as stage
 use Rattle.turn_file.specs.Fault.{in_file, in_record, number_place, record_place, fault_place}
 use Rattle.turn_file.specs.declared.number.Group.{Group}
 use Rattle.turn_file.specs.declared.number.Group.TheVariants as group
 use Rattle.turn_file.specs.Number.{group_of, group_before, judged, groups, number_at}
-use Rattle.turn_file.specs.Reading.{Stepped, in_order, step, next_step}
+use Rattle.turn_file.specs.Reading.{Stepped, in_order, next_step}
 use Rattle.turn_file.specs.Reading.{levels_step, level_step, script_step, schedule_step}
 use Rattle.turn_file.specs.Record.{bind, judge, with_kind, field_at, levels_at, algorithm_of, algorithm_at, fan_out_at}
 use Rattle.turn_file.specs.Record.{bad_levels, bad_fan_out, bad_limit, bad_script_number, bad_entry}

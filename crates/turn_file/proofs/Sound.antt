@@ -1,6 +1,6 @@
 -- A record that is handed out may come there, and its spelling stands there.
 use Rattle.std.proofs.Common.{◌≡◌, ℕ, zero, suc, ◌+◌, ◌-◌, ◌*◌, ◌^◌, ◌<◌, ◌≤◌, Bool, true, false, cond, eqb, ltb, ◌⊎◌, List, [], ◌∷◌, ◌++◌, length, take, drop, Some, Ok, sym, refl, ap, ◌∙◌, subst, inl, inr, arith}
-use native.Mathlib.Nat.{one_le_mul}
+use native.Mathlib.Nat.{one-le-mul}
 use Rattle.std.proofs.lemmas.List.{take_at}
 use Rattle.std.proofs.lemmas.Bool.Decides.{nat_tests}
 use Rattle.std.specs.List.{between, flat_map, AllByRecursion}
@@ -153,7 +153,7 @@ next_sound file at (stage.Level rank count parties) s each few e =
     of_step (SoundStep file at (stage.Level rank count parties)) _ s b.2 (record {
       comes = (b.0.0, refl, k.0, refl);
       stands = k.1;
-      few = few_after_level rank count (parties * b.0.0.fan_out) (one_le_mul few k.0.some)
+      few = few_after_level rank count (parties * b.0.0.fan_out) (one-le-mul few k.0.some)
           k.0.few;
     })
 next_sound file at (stage.Script worker workers) s each few e =

@@ -1,4 +1,6 @@
 // Reads turn files: a stack of locks, each worker's script, and who ran at each step.
+#![tactic(auto)]
+
 pub mod fault;
 mod field;
 pub mod limits;

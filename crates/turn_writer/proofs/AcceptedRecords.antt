@@ -1,6 +1,6 @@
 -- Records that are not refused come in order, and reach as far as their spelling.
 use Rattle.std.proofs.Common.{◌≡◌, ℕ, ◌+◌, ◌-◌, ◌*◌, ◌<◌, ◌≤◌, cond, eqb, ◌⊎◌, List, [], ◌∷◌, ◌++◌, length, Ok, fold, sym, refl, ap, ◌∙◌, subst, inl, inr, arith, length-append}
-use native.Mathlib.Nat.{one_le_mul}
+use native.Mathlib.Nat.{one-le-mul}
 use Rattle.std.proofs.lemmas.Bool.Decides.{nat_tests, eqb_tells}
 use Rattle.std.specs.List.{flat_map, AllByRecursion}
 use Rattle.turn_file.specs.declared.fault.RecordFault.TheVariants.{HandoffLimit, ScriptNumber, Entry}
@@ -118,7 +118,7 @@ workers_few rank parties (l ∷ ls) at next some few is =
     let b = bind_ok (past_level rank parties l at) _ next is in
     let k = level_comes rank 0 parties l at b.0 b.1 in
     let now : lanes_below parties l ≡ parties * l.fan_out = omega (arith, k.3) in
-    let rest = workers_few (rank + 1) (parties * l.fan_out) ls b.0 next (one_le_mul some k.2) k.3 b.2 in
+    let rest = workers_few (rank + 1) (parties * l.fan_out) ls b.0 next (one-le-mul some k.2) k.3 b.2 in
     (rest.0, rest.1, ap (λ n. fold lanes_below n ls) now ∙ rest.2)
 
 script_number_fits : (n at next : ℕ) → past_script_number n at ≡ Ok next → (n ≤ 65535) × (next ≡ past n at)

@@ -1,6 +1,6 @@
 -- The levels of records in file order.
 use Rattle.std.proofs.Common.{◌≡◌, ℕ, ◌+◌, ◌-◌, ◌*◌, ◌<◌, ◌≤◌, cond, eqb, ◌⊎◌, List, [], ◌∷◌, ◌++◌, length, fold, sym, ap, ◌∙◌, subst, inl, inr, arith}
-use native.Mathlib.Nat.{one_le_mul}
+use native.Mathlib.Nat.{one-le-mul}
 use Rattle.std.proofs.lemmas.Bool.{cases_lt}
 use Rattle.std.proofs.lemmas.Bool.Decides.{nat_tests}
 use Rattle.turn_file.specs.declared.plan.Level.{Level}
@@ -27,7 +27,7 @@ lanes_fit : (rank lanes : ℕ) (l : Level) → LevelFits rank lanes l → lanes 
 lanes_fit rank lanes l fits = let few = fits.few in omega arith
 
 some_below : (lanes : ℕ) (l : Level) → 1 ≤ lanes → 1 ≤ l.fan_out → 1 ≤ lanes_below lanes l
-some_below lanes l some each = let product = one_le_mul some each in omega arith
+some_below lanes l some each = let product = one-le-mul some each in omega arith
 
 -- records that begin with a row of levels, below so many lanes
 pub record LevelsFirst (rank count lanes : ℕ) (items : List Item) : Type 0 where

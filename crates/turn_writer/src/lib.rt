@@ -1,4 +1,6 @@
 // Writes turn files.
+#![tactic(auto)]
+
 mod algorithm;
 mod judge;
 mod number_writer;

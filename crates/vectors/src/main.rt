@@ -2,6 +2,8 @@
 // A file is a line of hexadecimal: the answer is what it holds, or why it is refused;
 // or the word `changed`, where the writer makes another file of the plan that was read.
 // A plan is a line that begins with the word `plan`: the answer is how it is written, or why it is refused.
+#![tactic(auto)]
+
 mod checksum;
 mod hex;
 mod plan_line;

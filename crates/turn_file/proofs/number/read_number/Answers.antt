@@ -9,21 +9,21 @@ returns-then-next-file c =
     let l = c.loop-left in
     let is = sym (by_end c.args.file.now c.args.at l.left l.next l.value l.weight
     l.invariant.0 c.loop-left-test.true c.if-next-file.true) in
-    record { reads = is; spelled = read_spelled c.args.file.now c.args.at _ (λ i. (c.type-inv.file i).fits) is }
+    record { reads = is; spelled = read_spelled c.args.file.now c.args.at _ (λ i. (c.type_inv.file i).fits) is }
 
 pub returns-in-Padded : goal.returns-in-Padded
 returns-in-Padded c =
     let l = c.loop-left in
     let is = sym (by_turn c.args.file.now c.args.at l.left l.next l.value l.weight
     _ l.invariant.0 c.loop-left-test.true c.if-next-file.false c.in-Padded.ensures) in
-    record { reads = is; spelled = read_spelled c.args.file.now c.args.at _ (λ i. (c.type-inv.file i).fits) is }
+    record { reads = is; spelled = read_spelled c.args.file.now c.args.at _ (λ i. (c.type_inv.file i).fits) is }
 
 pub returns-in-TooLarge : goal.returns-in-TooLarge
 returns-in-TooLarge c =
     let l = c.loop-left in
     let is = sym (by_turn c.args.file.now c.args.at l.left l.next l.value l.weight
     _ l.invariant.0 c.loop-left-test.true c.if-next-file.false c.in-TooLarge.ensures) in
-    record { reads = is; spelled = read_spelled c.args.file.now c.args.at _ (λ i. (c.type-inv.file i).fits) is }
+    record { reads = is; spelled = read_spelled c.args.file.now c.args.at _ (λ i. (c.type_inv.file i).fits) is }
 
 pub returns-in-Last : goal.returns-in-Last
 returns-in-Last c =
@@ -31,7 +31,7 @@ returns-in-Last c =
     let is = ap (λ b. Ok (l.value + b * l.weight, l.next + 1)) c.from.ensures
     ∙ sym (by_turn c.args.file.now c.args.at l.left l.next l.value l.weight
     _ l.invariant.0 c.loop-left-test.true c.if-next-file.false c.in-Last.ensures) in
-    record { reads = is; spelled = read_spelled c.args.file.now c.args.at _ (λ i. (c.type-inv.file i).fits) is }
+    record { reads = is; spelled = read_spelled c.args.file.now c.args.at _ (λ i. (c.type_inv.file i).fits) is }
 
 pub loop-left-preserved : goal.loop-left-preserved
 loop-left-preserved c =

@@ -4,7 +4,7 @@ use Rattle.turn_writer.proofs.judge.level_count.Goals as goal
 
 pub returns : goal.returns
 returns c =
-    let t = c.type-inv.plan in
+    let t = c.type_inv.plan in
     let levels = t.1.0 in
     let scripts = t.1.1.0 in
     record {

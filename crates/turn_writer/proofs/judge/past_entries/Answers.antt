@@ -6,21 +6,21 @@ use Rattle.turn_writer.proofs.Sizes.{entry_past}
 use Rattle.turn_writer.proofs.Turns.{after_entry, entries_more}
 use Rattle.turn_writer.proofs.judge.past_entries.Goals as goal
 
-pub returns-in-err-next : goal.returns-in-err-next
-returns-in-err-next c =
+pub returns-in_err-next : goal.returns-in_err-next
+returns-in_err-next c =
     let l = c.loop-entry in
     let es = c.args.entries.now in
-    let p = err_from_is_err_and c.from-residual.result c.from-residual.ensures.1 in
+    let p = err_from_is_err_and c.from_residual.result c.from_residual.ensures.1 in
     p.1 ∙ ap Err p.2
-    ∙ ap (after_entry l.entry-index c.args.workers es) (sym c.in-err-next.was ∙ c.past-entry.ensures)
+    ∙ ap (after_entry l.entry-index c.args.workers es) (sym c.in_err-next.was ∙ c.past_entry.ensures)
     ∙ sym (entries_more l.entry-index c.args.workers es l.next c.loop-entry-test.true) ∙ l.invariant.0
 
 pub loop-entry-preserved : goal.loop-entry-preserved
 loop-entry-preserved c =
     let l = c.loop-entry in
     let es = c.args.entries.now in
-    let judged = sym c.past-entry.ensures ∙ c.in-ok-next.was in
-    let far = entry_past c.args.workers (get_or es l.entry-index 0) l.next c.in-ok-next.next
+    let judged = sym c.past_entry.ensures ∙ c.in_ok-next.was in
+    let far = entry_past c.args.workers (get_or es l.entry-index 0) l.next c.in_ok-next.next
     judged in (
       ap (after_entry l.entry-index c.args.workers es) (sym judged)
           ∙ sym (entries_more l.entry-index c.args.workers es l.next c.loop-entry-test.true) ∙ l.invariant.0,

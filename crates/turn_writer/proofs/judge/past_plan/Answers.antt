@@ -4,18 +4,18 @@ use Rattle.turn_file.proofs.Apart.{not_both}
 use Rattle.turn_writer.proofs.Sizes.{header_past}
 use Rattle.turn_writer.proofs.judge.past_plan.Goals as goal
 
-pub past-schedule-requires : goal.past-schedule-requires
-past-schedule-requires c =
-    let shape = c.past-header.ensures.shape in
-    let header = sym c.past-header.ensures.end ∙ c.in-ok-at-count.was in
+pub past_schedule-requires : goal.past_schedule-requires
+past_schedule-requires c =
+    let shape = c.past_header.ensures.shape in
+    let header = sym c.past_header.ensures.end ∙ c.in_ok-at_count.was in
     omega (arith, header_past (plan_numbers c.args.plan.now) _ shape.four shape.sixty_four header)
 
-pub returns-in-err-at-count : goal.returns-in-err-at-count
-returns-in-err-at-count c = record {
+pub returns-in_err-at_count : goal.returns-in_err-at_count
+returns-in_err-at_count c = record {
   end = search rules;
   known = record {
-    shape = c.past-header.ensures.shape;
-    entries = λ at is. absurd (not_both (sym is ∙ sym c.past-header.ensures.end ∙ c.in-err-at-count.was));
+    shape = c.past_header.ensures.shape;
+    entries = λ at is. absurd (not_both (sym is ∙ sym c.past_header.ensures.end ∙ c.in_err-at_count.was));
   };
 }
 
@@ -23,7 +23,7 @@ pub returns : goal.returns
 returns c = record {
   end = search rules;
   known = record {
-    shape = c.past-header.ensures.shape;
-    entries = λ at is. c.past-schedule.ensures.words;
+    shape = c.past_header.ensures.shape;
+    entries = λ at is. c.past_schedule.ensures.words;
   };
 }

@@ -7,21 +7,21 @@ use Rattle.turn_writer.proofs.Sizes.{script_past}
 use Rattle.turn_writer.proofs.Turns.{after_script, scripts_more}
 use Rattle.turn_writer.proofs.judge.past_scripts.Goals as goal
 
-pub returns-in-err-next : goal.returns-in-err-next
-returns-in-err-next c =
+pub returns-in_err-next : goal.returns-in_err-next
+returns-in_err-next c =
     let l = c.loop-script in
     let ss = c.args.scripts.now in
-    let p = err_from_is_err_and c.from-residual.result c.from-residual.ensures.1 in
+    let p = err_from_is_err_and c.from_residual.result c.from_residual.ensures.1 in
     p.1 ∙ ap Err p.2
-    ∙ ap (after_script l.script-index ss) (sym c.in-err-next.was ∙ c.past-script.ensures)
+    ∙ ap (after_script l.script-index ss) (sym c.in_err-next.was ∙ c.past_script.ensures)
     ∙ sym (scripts_more l.script-index ss l.next c.loop-script-test.true) ∙ l.invariant.0
 
 pub loop-script-preserved : goal.loop-script-preserved
 loop-script-preserved c =
     let l = c.loop-script in
     let ss = c.args.scripts.now in
-    let judged = sym c.past-script.ensures ∙ c.in-ok-next.was in
-    let far = script_past (get_or ss l.script-index no_script) l.next c.in-ok-next.next judged in (
+    let judged = sym c.past_script.ensures ∙ c.in_ok-next.was in
+    let far = script_past (get_or ss l.script-index no_script) l.next c.in_ok-next.next judged in (
       ap (after_script l.script-index ss) (sym judged)
           ∙ sym (scripts_more l.script-index ss l.next c.loop-script-test.true) ∙ l.invariant.0,
       omega (arith, l.invariant.1, far),

@@ -8,6 +8,6 @@ pub returns : goal.returns
 returns c =
     let p = plan_numbers c.args.plan.now in
     record {
-      answer = c.past-plan.ensures.end;
-      law = subst (Measures p) (sym c.past-plan.ensures.end) (writes p c.past-plan.ensures.known);
+      answer = c.past_plan.ensures.end;
+      law = subst (Measures p) (sym c.past_plan.ensures.end) (writes p c.past_plan.ensures.known);
     }

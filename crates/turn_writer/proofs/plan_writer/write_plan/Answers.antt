@@ -10,38 +10,38 @@ use Rattle.turn_writer.proofs.Layings.{laid_front}
 use Rattle.turn_writer.proofs.AcceptedPlans.{plan_accepted}
 use Rattle.turn_writer.proofs.plan_writer.write_plan.Goals as goal
 
-pub returns-in-err-length : goal.returns-in-err-length
-returns-in-err-length c =
+pub returns-in_err-length : goal.returns-in_err-length
+returns-in_err-length c =
     let p = plan_numbers c.args.plan.now in
     let space = length c.args.out.now in
-    let e = err_from_is_err_and c.from-residual.result c.from-residual.ensures.1 in
+    let e = err_from_is_err_and c.from_residual.result c.from_residual.ensures.1 in
     let answer = e.1 ∙ ap Err e.2 ∙ ap (with_space space)
-    (sym c.in-err-length.was ∙ c.past-plan.ensures.end) in
+    (sym c.in_err-length.was ∙ c.past_plan.ensures.end) in
     record {
       answer = answer;
       output = sym (ap (output_after c.args.out.now p) e.1);
-      law = subst (Writes p space) (sym answer) (writes p c.past-plan.ensures.known space);
+      law = subst (Writes p space) (sym answer) (writes p c.past_plan.ensures.known space);
     }
 
 pub returns-then-length-out : goal.returns-then-length-out
 returns-then-length-out c =
     let p = plan_numbers c.args.plan.now in
     let space = length c.args.out.now in
-    let n = c.in-ok-length.length in
-    let is = sym c.past-plan.ensures.end ∙ c.in-ok-length.was in
+    let n = c.in_ok-length.length in
+    let is = sym c.past_plan.ensures.end ∙ c.in_ok-length.was in
     let answer = sym (ap (with_space space) is
     ∙ ap (λ t. cond t (Err OutputTooShort) (Ok n)) (lt-ltb space n c.if-length-out.true)) in
     record {
       answer = answer;
       output = refl;
-      law = subst (Writes p space) (sym answer) (writes p c.past-plan.ensures.known space);
+      law = subst (Writes p space) (sym answer) (writes p c.past_plan.ensures.known space);
     }
 
-pub write-records-requires : goal.write-records-requires
-write-records-requires c =
+pub write_records-requires : goal.write_records-requires
+write_records-requires c =
     let p = plan_numbers c.args.plan.now in
-    let is = sym c.past-plan.ensures.end ∙ c.in-ok-length.was in
-    let a = plan_accepted p c.in-ok-length.length c.past-plan.ensures.known.shape is in
+    let is = sym c.past_plan.ensures.end ∙ c.in_ok-length.was in
+    let a = plan_accepted p c.in_ok-length.length c.past_plan.ensures.known.shape is in
     record {
       plain = a.plain;
       few = omega (arith, a.few);
@@ -52,14 +52,14 @@ pub returns : goal.returns
 returns c =
     let p = plan_numbers c.args.plan.now in
     let out = c.args.out.now in
-    let n = c.in-ok-length.length in
-    let is = sym c.past-plan.ensures.end ∙ c.in-ok-length.was in
-    let a = plan_accepted p n c.past-plan.ensures.known.shape is in
+    let n = c.in_ok-length.length in
+    let is = sym c.past_plan.ensures.end ∙ c.in_ok-length.was in
+    let a = plan_accepted p n c.past_plan.ensures.known.shape is in
     let answer = sym (ap (with_space (length out)) is
     ∙ ap (λ t. cond t (Err OutputTooShort) (Ok n)) (le-ltb (length out) n c.if-length-out.false)) in
     record {
       answer = answer;
-      output = c.write-records.ensures
+      output = c.write_records.ensures
           ∙ laid_front out (plan_spelling p) n (omega (arith, a.long, c.if-length-out.false)) a.long;
-      law = subst (Writes p (length out)) (sym answer) (writes p c.past-plan.ensures.known (length out));
+      law = subst (Writes p (length out)) (sym answer) (writes p c.past_plan.ensures.known (length out));
     }

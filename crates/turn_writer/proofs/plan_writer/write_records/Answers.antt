@@ -7,78 +7,78 @@ use Rattle.turn_writer.proofs.Layings.{Wrote, wrote_both, wrote_as}
 use Rattle.turn_writer.proofs.Parts.{parts, sizes}
 use Rattle.turn_writer.proofs.plan_writer.write_records.Goals as goal
 
-pub write-levels-at-scripts-requires : goal.write-levels-at-scripts-requires
-write-levels-at-scripts-requires c =
+pub write_levels-at_scripts-requires : goal.write_levels-at_scripts-requires
+write_levels-at_scripts-requires c =
     let p = plan_numbers c.args.plan.now in
     let total = sizes p.count (used_levels p) (used_scripts p) p.entries p.entries c.requires.plain in
-    let levels = ap (λ ls. length (levels_spelling 0 ls)) c.used-levels.ensures in
+    let levels = ap (λ ls. length (levels_spelling 0 ls)) c.used_levels.ensures in
     omega (
       arith,
       total,
       levels,
       c.requires.space,
-      c.write-number-at-levels.ensures.next,
-      c.write-number-at-levels.auto.out,
+      c.write_number-at_levels.ensures.next,
+      c.write_number-at_levels.auto.out,
     )
 
-pub write-scripts-at-count-requires : goal.write-scripts-at-count-requires
-write-scripts-at-count-requires c =
+pub write_scripts-at_count-requires : goal.write_scripts-at_count-requires
+write_scripts-at_count-requires c =
     let p = plan_numbers c.args.plan.now in
     let total = sizes p.count (used_levels p) (used_scripts p) p.entries p.entries c.requires.plain in
-    let levels = ap (λ ls. length (levels_spelling 0 ls)) c.used-levels.ensures in
-    let scripts = ap (λ ss. length (scripts_spelling 0 ss)) c.used-scripts.ensures in
+    let levels = ap (λ ls. length (levels_spelling 0 ls)) c.used_levels.ensures in
+    let scripts = ap (λ ss. length (scripts_spelling 0 ss)) c.used_scripts.ensures in
     omega (
       arith,
       total,
       levels,
       scripts,
       c.requires.space,
-      c.write-number-at-levels.ensures.next,
-      c.write-number-at-levels.auto.out,
-      c.write-levels-at-scripts.ensures.next,
-      c.write-levels-at-scripts.auto.out,
+      c.write_number-at_levels.ensures.next,
+      c.write_number-at_levels.auto.out,
+      c.write_levels-at_scripts.ensures.next,
+      c.write_levels-at_scripts.auto.out,
     )
 
-pub write-number-at-entries-requires : goal.write-number-at-entries-requires
-write-number-at-entries-requires c =
+pub write_number-at_entries-requires : goal.write_number-at_entries-requires
+write_number-at_entries-requires c =
     let p = plan_numbers c.args.plan.now in
     let total = sizes p.count (used_levels p) (used_scripts p) p.entries p.entries c.requires.plain in
-    let levels = ap (λ ls. length (levels_spelling 0 ls)) c.used-levels.ensures in
-    let scripts = ap (λ ss. length (scripts_spelling 0 ss)) c.used-scripts.ensures in
+    let levels = ap (λ ls. length (levels_spelling 0 ls)) c.used_levels.ensures in
+    let scripts = ap (λ ss. length (scripts_spelling 0 ss)) c.used_scripts.ensures in
     omega (
       arith,
       total,
       levels,
       scripts,
       c.requires.space,
-      c.write-number-at-levels.ensures.next,
-      c.write-number-at-levels.auto.out,
-      c.write-levels-at-scripts.ensures.next,
-      c.write-levels-at-scripts.auto.out,
-      c.write-scripts-at-count.ensures.next,
-      c.write-scripts-at-count.auto.out,
+      c.write_number-at_levels.ensures.next,
+      c.write_number-at_levels.auto.out,
+      c.write_levels-at_scripts.ensures.next,
+      c.write_levels-at_scripts.auto.out,
+      c.write_scripts-at_count.ensures.next,
+      c.write_scripts-at_count.auto.out,
     )
 
-pub write-entries-requires : goal.write-entries-requires
-write-entries-requires c =
+pub write_entries-requires : goal.write_entries-requires
+write_entries-requires c =
     let p = plan_numbers c.args.plan.now in
     let total = sizes p.count (used_levels p) (used_scripts p) p.entries p.entries c.requires.plain in
-    let levels = ap (λ ls. length (levels_spelling 0 ls)) c.used-levels.ensures in
-    let scripts = ap (λ ss. length (scripts_spelling 0 ss)) c.used-scripts.ensures in
+    let levels = ap (λ ls. length (levels_spelling 0 ls)) c.used_levels.ensures in
+    let scripts = ap (λ ss. length (scripts_spelling 0 ss)) c.used_scripts.ensures in
     omega (
       arith,
       total,
       levels,
       scripts,
       c.requires.space,
-      c.write-number-at-levels.ensures.next,
-      c.write-number-at-levels.auto.out,
-      c.write-levels-at-scripts.ensures.next,
-      c.write-levels-at-scripts.auto.out,
-      c.write-scripts-at-count.ensures.next,
-      c.write-scripts-at-count.auto.out,
-      c.write-number-at-entries.ensures.next,
-      c.write-number-at-entries.auto.out,
+      c.write_number-at_levels.ensures.next,
+      c.write_number-at_levels.auto.out,
+      c.write_levels-at_scripts.ensures.next,
+      c.write_levels-at_scripts.auto.out,
+      c.write_scripts-at_count.ensures.next,
+      c.write_scripts-at_count.auto.out,
+      c.write_number-at_entries.ensures.next,
+      c.write_number-at_entries.auto.out,
     )
 
 pub returns : goal.returns
@@ -86,28 +86,28 @@ returns c =
     let p = plan_numbers c.args.plan.now in
     let out = c.args.out.now in
     let count : Wrote (spell p.count) out 0 _ _ = record {
-      next_is = c.write-number-at-levels.ensures.next;
-      after_is = c.write-number-at-levels.ensures.bytes;
+      next_is = c.write_number-at_levels.ensures.next;
+      after_is = c.write_number-at_levels.ensures.bytes;
     } in
     let levels : Wrote (levels_spelling 0 (used_levels p)) _ _ _ _ = wrote_as
-    (ap (levels_spelling 0) c.used-levels.ensures)
+    (ap (levels_spelling 0) c.used_levels.ensures)
     (record {
-      next_is = c.write-levels-at-scripts.ensures.next;
-      after_is = c.write-levels-at-scripts.ensures.bytes;
+      next_is = c.write_levels-at_scripts.ensures.next;
+      after_is = c.write_levels-at_scripts.ensures.bytes;
     }) in
     let scripts : Wrote (scripts_spelling 0 (used_scripts p)) _ _ _ _ = wrote_as
-    (ap (scripts_spelling 0) c.used-scripts.ensures)
+    (ap (scripts_spelling 0) c.used_scripts.ensures)
     (record {
-      next_is = c.write-scripts-at-count.ensures.next;
-      after_is = c.write-scripts-at-count.ensures.bytes;
+      next_is = c.write_scripts-at_count.ensures.next;
+      after_is = c.write_scripts-at_count.ensures.bytes;
     }) in
     let entry_count : Wrote (spell (length p.entries)) _ _ _ _ = record {
-      next_is = c.write-number-at-entries.ensures.next;
-      after_is = c.write-number-at-entries.ensures.bytes;
+      next_is = c.write_number-at_entries.ensures.next;
+      after_is = c.write_number-at_entries.ensures.bytes;
     } in
-    let entries : Wrote p.entries _ _ _ c.write-entries.new.out = record {
+    let entries : Wrote p.entries _ _ _ c.write_entries.new.out = record {
       next_is = refl;
-      after_is = c.write-entries.ensures.bytes;
+      after_is = c.write_entries.ensures.bytes;
     } in
     let all = wrote_both count (wrote_both levels (wrote_both scripts (wrote_both entry_count entries))) in
     let whole = parts p.count (used_levels p) (used_scripts p) p.entries p.entries c.requires.plain in

@@ -11,7 +11,7 @@ returns c =
     let es = c.args.entries.now in
     let size : at + (at + length es - at) ≡ at + length es = omega arith in
     record {
-      bytes = ap (put_mid at (at + length es - at) out) c.copy-from-slice.ensures.after
+      bytes = ap (put_mid at (at + length es - at) out) c.copy_from_slice.ensures.after
           ∙ ap (λ rest. take at out ++ (es ++ rest))
           (drop-drop (at + length es - at) at out ∙ ap (λ n. drop n out) size)
           ∙ sym (laid_is out at es c.requires);

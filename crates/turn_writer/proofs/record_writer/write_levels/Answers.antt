@@ -7,15 +7,15 @@ use Rattle.turn_writer.proofs.record_writer.write_levels.Goals as goal
 pub loop-rank-init : goal.loop-rank-init
 loop-rank-init c = nothing_yet _ _ _
 
-pub write-level-next-requires : goal.write-level-next-requires
-write-level-next-requires c =
+pub write_level-next-requires : goal.write_level-next-requires
+write_level-next-requires c =
     space c.loop-rank.invariant _ _ (levels_cut c.loop-rank.rank c.args.levels.now c.loop-rank-test.true)
     c.requires c.loop-rank.auto.out
 
 pub loop-rank-preserved : goal.loop-rank-preserved
 loop-rank-preserved c =
     one_more c.loop-rank.invariant _ _ (levels_cut c.loop-rank.rank c.args.levels.now c.loop-rank-test.true)
-    (record { next_is = c.write-level-next.ensures.next; after_is = c.write-level-next.ensures.bytes })
+    (record { next_is = c.write_level-next.ensures.next; after_is = c.write_level-next.ensures.bytes })
 
 pub returns : goal.returns
 returns c =

@@ -7,8 +7,8 @@ use Rattle.turn_writer.proofs.record_writer.write_scripts.Goals as goal
 pub loop-script-init : goal.loop-script-init
 loop-script-init c = nothing_yet _ _ _
 
-pub write-script-next-requires : goal.write-script-next-requires
-write-script-next-requires c =
+pub write_script-next-requires : goal.write_script-next-requires
+write_script-next-requires c =
     let l = c.loop-script in
     space l.invariant _ _ (scripts_cut l.script-index c.args.scripts.now c.loop-script-test.true)
     c.requires l.auto.out
@@ -17,7 +17,7 @@ pub loop-script-preserved : goal.loop-script-preserved
 loop-script-preserved c =
     let l = c.loop-script in
     one_more l.invariant _ _ (scripts_cut l.script-index c.args.scripts.now c.loop-script-test.true)
-    (record { next_is = c.write-script-next.ensures.next; after_is = c.write-script-next.ensures.bytes })
+    (record { next_is = c.write_script-next.ensures.next; after_is = c.write_script-next.ensures.bytes })
 
 pub returns : goal.returns
 returns c =

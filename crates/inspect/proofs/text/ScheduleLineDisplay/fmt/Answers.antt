@@ -12,12 +12,12 @@ loop-entry-init g c plain = nothing_yet plain
 pub loop-entry-preserved : goal.loop-entry-preserved
 loop-entry-preserved g c plain =
     let before = c.loop-entry.invariant plain in
-    let entry = c.in-ok-write.ensures.shows before.put.plain refl in
+    let entry = c.in_ok-write.ensures.shows before.put.plain refl in
     one_more before (at_drop_more (flat_map entry_text) _ _ _ c.loop-entry-test.true) entry
 
 pub returns-clause-writes : goal.returns-clause-writes
 returns-clause-writes g c plain ok =
-    let word = c.in-ok-write-str.ensures.writes plain refl in
+    let word = c.in_ok-write_str.ensures.writes plain refl in
     let entries = all (c.loop-entry.invariant word.plain)
     (at_drop_all (flat_map entry_text) _ _ c.loop-entry-test.false) in
     has_written_append _ _ _ _ _ _ word entries

@@ -6,10 +6,10 @@ use Rattle.turn_file.proofs.plan.Plan.workers.Goals as goal
 
 pub loop-level-preserved : goal.loop-level-preserved
 loop-level-preserved c =
-    rw c.loop-level.invariant at c.lanes-below-workers.ensures
+    rw c.loop-level.invariant at c.lanes_below-workers.ensures
     ∙ sym (fold_more lanes_below 1 _ _ _ c.loop-level-test.true)
 
 pub returns : goal.returns
 returns c =
     c.loop-level.invariant
-    ∙ ap (fold lanes_below 1) (take_all _ _ c.loop-level-test.false ∙ c.used-levels-level-items.ensures)
+    ∙ ap (fold lanes_below 1) (take_all _ _ c.loop-level-test.false ∙ c.used_levels-level-items.ensures)

@@ -93,7 +93,7 @@ impl fmt::Display for ScheduleLine<'_> {
 }
 
 fn write_levels<W: fmt::Write>(f: &mut fmt::Formatter<W>, levels: &[Level]) -> fmt::Result
-    ensures { WritesOnOk write_str_gives f.old result (level_lines 1 1 levels.now) f.new }
+    ensures { WritesOnOk W.write_str_gives f.old result (level_lines 1 1 levels.now) f.new }
 {
     let mut lanes = 1;
     for (rank, level) in levels.iter().enumerate() {
@@ -109,7 +109,7 @@ fn write_levels<W: fmt::Write>(f: &mut fmt::Formatter<W>, levels: &[Level]) -> f
 }
 
 fn write_scripts<W: fmt::Write>(f: &mut fmt::Formatter<W>, scripts: &[Script]) -> fmt::Result
-    ensures { WritesOnOk write_str_gives f.old result (script_lines 0 scripts.now) f.new }
+    ensures { WritesOnOk W.write_str_gives f.old result (script_lines 0 scripts.now) f.new }
 {
     for (worker, script) in scripts.iter().enumerate() {
         let script = *script;
@@ -121,7 +121,7 @@ fn write_scripts<W: fmt::Write>(f: &mut fmt::Formatter<W>, scripts: &[Script]) -
 
 // A schedule without entries has a line too.
 fn write_schedule<W: fmt::Write>(f: &mut fmt::Formatter<W>, entries: &[u8]) -> fmt::Result
-    ensures { WritesOnOk write_str_gives f.old result (schedule_lines entries.now) f.new }
+    ensures { WritesOnOk W.write_str_gives f.old result (schedule_lines entries.now) f.new }
 {
     if entries.is_empty() {
         return writeln!(f, "schedule");
@@ -133,7 +133,7 @@ fn write_schedule<W: fmt::Write>(f: &mut fmt::Formatter<W>, entries: &[u8]) -> f
 }
 
 fn write_plan<W: fmt::Write>(f: &mut fmt::Formatter<W>, plan: &Plan<'_>) -> fmt::Result
-    ensures { WritesOnOk write_str_gives f.old result (plan_text (plan_numbers plan.now)) f.new }
+    ensures { WritesOnOk W.write_str_gives f.old result (plan_text (plan_numbers plan.now)) f.new }
 {
     writeln!(f, "levels {}", plan.level_count)?;
     write_levels(f, plan.used_levels())?;

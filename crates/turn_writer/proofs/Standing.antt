@@ -1,5 +1,5 @@
 -- The parts of a plan's spelling, each where it stands, and that a reader stops at the part that is refused.
-use Rattle.std.proofs.Common.{◌≡◌, ℕ, ◌+◌, ◌≤◌, List, [], ◌∷◌, ◌++◌, length, Ok, Err, refl, ap, subst, arith}
+use Rattle.std.proofs.Common.{◌≡◌, ℕ, ◌≤◌, List, [], ◌∷◌, ◌++◌, length, Ok, Err, refl, ap, subst, arith}
 use Rattle.std.specs.List.{flat_map, AllByRecursion}
 use Rattle.turn_file.specs.declared.fault.RecordFault.{RecordFault}
 use Rattle.turn_file.specs.declared.fault.RecordFault.TheVariants.{LevelCount}

@@ -10,7 +10,7 @@ loop-rank-init g c plain = nothing_yet plain
 pub loop-rank-preserved : goal.loop-rank-preserved
 loop-rank-preserved g c plain =
     let before = c.loop-rank.invariant plain in
-    let line = c.in_ok-writeln.ensures.shows before.put.plain refl in
+    let line = c.in_ok-writeln.ensures.writes before.put.plain refl in
     rw c.lanes_below-lanes.ensures
     (one_more before (at_drop_more (level_lines (c.loop-rank.rank + 1) c.loop-rank.lanes) _ _ _
     c.loop-rank-test.true) line)

@@ -7,7 +7,7 @@ use Rattle.inspect.proofs.text.write_schedule.Goals as goal
 
 pub loop-line-init : goal.loop-line-init
 loop-line-init g c =
-    let becomes = c.into_iter-line-iterator.ensures.into_iter-gives in
+    let becomes = c.into_iter-line-iterator.ensures.into_iter_gives in
     let whole = ap chunks_rest becomes ∙ c.chunks-line-items.ensures.rest in (
       ap chunks_size becomes ∙ c.chunks-line-items.ensures.size,
       length c.args.entries.now,
@@ -28,7 +28,7 @@ loop-line-preserved g c =
       next.1,
       λ plain.
           let before = old.3 plain in
-          one_more before next.2 (c.in_ok-writeln.ensures.shows before.put.plain refl),
+          one_more before next.2 (c.in_ok-writeln.ensures.writes before.put.plain refl),
     )
 
 pub returns : goal.returns

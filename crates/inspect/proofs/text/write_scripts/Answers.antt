@@ -10,7 +10,7 @@ loop-worker-init g c plain = nothing_yet plain
 pub loop-worker-preserved : goal.loop-worker-preserved
 loop-worker-preserved g c plain =
     let before = c.loop-worker.invariant plain in
-    let line = c.in_ok-writeln.ensures.shows before.put.plain refl in
+    let line = c.in_ok-writeln.ensures.writes before.put.plain refl in
     one_more before (at_drop_more (script_lines c.loop-worker.worker) _ _ _ c.loop-worker-test.true) line
 
 pub returns : goal.returns

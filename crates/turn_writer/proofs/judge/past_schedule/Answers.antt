@@ -8,8 +8,8 @@ returns-in_err-first c = record { end = search rules; words = bytes_words _ (λ 
 pub returns-in_err-end : goal.returns-in_err-end
 returns-in_err-end c = record { end = search rules; words = bytes_words _ (λ i. (c.type_inv.entries i).fits) }
 
-pub returns-then-end-gt-LONGEST-FILE : goal.returns-then-end-gt-LONGEST-FILE
-returns-then-end-gt-LONGEST-FILE c =
+pub returns-then-end-gt-LONGEST_FILE : goal.returns-then-end-gt-LONGEST_FILE
+returns-then-end-gt-LONGEST_FILE c =
     record { end = search rules; words = bytes_words _ (λ i. (c.type_inv.entries i).fits) }
 
 pub returns : goal.returns

@@ -21,4 +21,4 @@ pub returns : goal.returns
 returns c =
     let w = all_laid c.loop-rank.invariant
     (at_drop_all (levels_spelling c.loop-rank.rank) _ _ c.loop-rank-test.false) in
-    record { next = w.next_is; bytes = w.after-is }
+    record { next = w.next_is; bytes = w.after_is }

@@ -23,4 +23,4 @@ pub returns : goal.returns
 returns c =
     let l = c.loop-script in
     let w = all_laid l.invariant (at_drop_all (scripts_spelling l.script-index) _ _ c.loop-script-test.false) in
-    record { next = w.next_is; bytes = w.after-is }
+    record { next = w.next_is; bytes = w.after_is }

@@ -12,7 +12,7 @@ loop-entry-init g c plain = nothing_yet plain
 pub loop-entry-preserved : goal.loop-entry-preserved
 loop-entry-preserved g c plain =
     let before = c.loop-entry.invariant plain in
-    let entry = c.in_ok-write.ensures.shows before.put.plain refl in
+    let entry = c.in_ok-write.ensures.writes before.put.plain refl in
     one_more before (at_drop_more (flat_map entry_text) _ _ _ c.loop-entry-test.true) entry
 
 pub returns-clause-writes : goal.returns-clause-writes

@@ -14,6 +14,7 @@ mod words;
 use composition::Composition;
 use failure::Failure;
 use std::io::{Read, Write};
+use std::process::ExitCode;
 use turn_file::limits::LONGEST_FILE;
 use turn_writer::plan_writer::write_plan;
 
@@ -28,10 +29,12 @@ fn run(rt: &HostRuntime) -> Result<(), Failure> {
 }
 
 // A failure is one line on standard error, and the status is then 1.
-fn main(rt: HostRuntime) -> Result<(), Failure> {
-    let done = run(&rt);
-    if let Err(failure) = &done {
-        let _ = rt.eprintln(failure);
+fn main(rt: HostRuntime) -> ExitCode {
+    match run(&rt) {
+        Ok(()) => ExitCode::SUCCESS,
+        Err(failure) => {
+            let _ = eprintln!(rt; "{failure}");
+            ExitCode::FAILURE
+        }
     }
-    done
 }

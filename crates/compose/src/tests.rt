@@ -7,8 +7,8 @@ use turn_file::plan::{Algorithm, Level, Script};
 const EDITED: &[u8] = b"# by hand, in any bytes: \xff\xfe
 
 levels\t002 # a stack
-  level 1 mcs fan_out 1\r
-level 2 ticket fan_out 0002 handoff-limit 70000# too many
+  level 1 mcs fan-out 1\r
+level 2 ticket fan-out 0002 handoff-limit 70000# too many
 \t
 script 0 turns 1 rest 2 hold 3
 script 1 turns 0 rest 0 hold 4294967295
@@ -24,32 +24,36 @@ fn edited(rt: HostRuntime) -> Result<(), Fail> {
     };
     let plan = composition.plan();
     assert_eq!(rt; plan.level_count, 2);
+    let top = plan.levels[0];
     assert_eq!(rt;
-        plan.levels[0],
+        top,
         Level {
             algorithm: Algorithm::Mcs,
             fan_out: 1,
             handoff_limit: 0,
         }
     );
+    let second = plan.levels[1];
     assert_eq!(rt;
-        plan.levels[1],
+        second,
         Level {
             algorithm: Algorithm::Ticket,
             fan_out: 2,
             handoff_limit: 70_000,
         }
     );
+    let script = plan.scripts[0];
     assert_eq!(rt;
-        plan.scripts[0],
+        script,
         Script {
             turns: 1,
             rest: 2,
             hold: 3,
         }
     );
-    assert_eq!(rt; plan.scripts[1].hold, 4_294_967_295);
-    assert_eq!(rt; plan.schedule, &[0, 1, 255, 255, 255]);
+    let last = plan.scripts[1];
+    assert_eq!(rt; last.hold, 4_294_967_295);
+    assert_eq!(rt; plan.schedule, [0, 1, 255, 255, 255].as_slice());
     Ok(())
 }
 

@@ -45,8 +45,9 @@ fn sixty_four_workers(rt: HostRuntime) {
     file[5] = 1;
     let mut plan = Plan::blank();
     assert_eq!(rt; read_plan(&file, &mut plan), Ok(()));
+    let second = plan.levels[1];
     assert_eq!(rt;
-        plan.levels[1],
+        second,
         Level {
             algorithm: Algorithm::Ticket,
             fan_out: 8,
@@ -70,16 +71,18 @@ fn handoff(rt: HostRuntime) -> Result<(), Fail> {
     let mut plan = Plan::blank();
     read_plan(&HANDOFF, &mut plan)?;
     assert_eq!(rt; plan.level_count, 2);
+    let top = plan.levels[0];
     assert_eq!(rt;
-        plan.levels[0],
+        top,
         Level {
             algorithm: Algorithm::Ticket,
             fan_out: 1,
             handoff_limit: 0,
         }
     );
+    let second = plan.levels[1];
     assert_eq!(rt;
-        plan.levels[1],
+        second,
         Level {
             algorithm: Algorithm::Ticket,
             fan_out: 2,
@@ -129,7 +132,7 @@ fn handoff_written_back(rt: HostRuntime) -> Result<(), Fail> {
     assert_eq!(rt; &out[0..30], &HANDOFF[0..30]);
     assert_eq!(rt;
         &out[30..32],
-        &[0xaa, 0xaa],
+        [0xaa, 0xaa].as_slice(),
         "what is behind the file stays as it was"
     );
     Ok(())

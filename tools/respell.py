@@ -14,7 +14,8 @@ import sys
 
 NAME = r"[A-Za-z0-9_'ℕℤ-]+"
 HYPHENED = re.compile(rf"(\.|(?<![A-Za-z0-9_'ℕℤ.-]))({NAME})(?![A-Za-z0-9_'ℕℤ-])")
-QUIET = re.compile(r'"(?:[^"\\\n]|\\.)*"|(?:--|//)[^\n]*')
+# strings, which may go over several lines, the character of a quote, and comments
+QUIET = re.compile(r'''"(?:[^"\\]|\\.)*"|'"'|(?:--|//)[^\n]*''', re.DOTALL)
 MADE = re.compile(rf"(?m)^\s*(?:abbrev )?(?:pub )?({NAME}) : goal\.\1\b|goal\.({NAME})")
 USED = re.compile(r"(?ms)^(?:pub )?(?:ghost )?use (Rattle\.\w+)[^;{\n]*\{([^}]*)\}")
 FIELD = re.compile(rf"(?m)^\s+pub ({NAME}) :")
@@ -43,8 +44,8 @@ def files():
 
 
 def loud(text):
-    """The text without strings and comments, at the same length."""
-    return QUIET.sub(lambda m: " " * len(m.group()), text)
+    """The text without strings and comments, at the same length and in the same lines."""
+    return QUIET.sub(lambda m: re.sub(r"[^\n]", " ", m.group()), text)
 
 
 def of_the_library(text, crates):
@@ -76,7 +77,7 @@ def turned(path, text, names, fields, crates):
 
     def quoted(m):
         part = m.group()
-        if part.startswith('"'):
+        if part[0] in "\"'":
             return part
         return re.sub(rf"`({NAME})`", lambda q: f"`{respelled(q.group(1))}`" if q.group(1) in names else q.group(), part)
 

@@ -449,7 +449,7 @@ def texts(count):
 
 
 def compare_texts():
-    program = ROOT / "target" / "bin" / "compose"
+    program = ROOT / "crates" / "compose" / "out" / "compose"
     seen = {"written": 0, "refused": 0, "unreadable": 0}
     for text in texts(3_000):
         run = subprocess.run([program], input=text, capture_output=True)

@@ -160,7 +160,7 @@ plan_stopped : (most : ℕ) (c : Cursor) (p : PlanNumbers) (f : FileFault) → c
     length c.file - c.place < most →
     plan_from most c p ≡ Err f →
     (items : List Item) × (at : ℕ) × (g : Stage) × Ran c.file c.place c.stage items at g
-    × (next_step c.file at g ≡ Err f)
+    × (next_step c.file at g ≡ Err f) × (at ≤ length c.file)
 plan_stopped zero c p f within enough e = absurd (omega arith)
 plan_stopped (suc most) c p f within enough e =
     elim (step_is (next_from c)) [
@@ -168,11 +168,11 @@ plan_stopped (suc most) c p f within enough e =
           let t = next_takes c.file c.place c.stage k.0 k.1 in
           let m = plan_stopped most (moved_on c (Ok (Some k.0))) (with_item p k.0.handed.item) f t.1
           (omega arith) (sym (plan_goes_on c p most k.0 k.1) ∙ e) in
-          (k.0.handed.item ∷ m.0, m.1, m.2, (k.0, k.1, refl, m.3), m.4)
+          (k.0.handed.item ∷ m.0, m.1, m.2, (k.0, k.1, refl, m.3), m.4, m.5)
       | inr (inl k) ↦ absurd (not_both (sym (plan_ends c p (suc most) (omega arith) k) ∙ e))
       | inr (inr k) ↦
           let same : k.0 ≡ f = let s = sym (plan_refused c p (suc most) k.0 (omega arith) k.1) ∙ e in cc in
-          ([], c.place, c.stage, (refl, refl), k.1 ∙ ap Err same)
+          ([], c.place, c.stage, (refl, refl), k.1 ∙ ap Err same, within)
     ]
 
 abbrev start : List ℕ → Cursor

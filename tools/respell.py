@@ -3,9 +3,10 @@
 
 usage: python3 tools/respell.py            in the repository, once, behind the scripts that turn an older repository
 
-It goes over specs/, proofs/ and the clauses of src/. Left as they are: names of the library, names that the check
-makes (they stand behind a point, as in `c.loop-test`, or are declared as `goal.NAME`), strings, comments but for
-names in backquotes, and everything of the code. It refuses to run where two names would fall together.
+It goes over specs/, proofs/ and the clauses of src/. Left as they are: names of the libraries, names that the check
+makes (they stand behind a point, as in `c.loop-test`, or are declared as `goal.NAME`), strings, and comments but for
+names in backquotes. Code has no names with dashes, and rt fmt sets blanks around its operators.
+It refuses to run where two of the names would fall together, and lists each that becomes a word which stands already.
 """
 
 import os
@@ -17,7 +18,7 @@ HYPHENED = re.compile(rf"(\.|(?<![A-Za-z0-9_'ℕℤ.-]))({NAME})(?![A-Za-z0-9_'�
 # strings, which may go over several lines, the character of a quote, and comments
 QUIET = re.compile(r'''"(?:[^"\\]|\\.)*"|'"'|(?:--|//)[^\n]*''', re.DOTALL)
 MADE = re.compile(rf"(?m)^\s*(?:abbrev )?(?:pub )?({NAME}) : goal\.\1\b|goal\.({NAME})")
-USED = re.compile(r"(?ms)^(?:pub )?(?:ghost )?use (Rattle\.\w+)[^;{\n]*\{([^}]*)\}")
+USED = re.compile(r"(?ms)^(?:pub )?(?:ghost )?use (\w+)\.(\w+)[^;{\n]*\{([^}]*)\}")
 FIELD = re.compile(rf"(?m)^\s+pub ({NAME}) :")
 
 
@@ -51,8 +52,8 @@ def loud(text):
 def of_the_library(text, crates):
     names = set()
     for m in USED.finditer(text):
-        if m.group(1).split(".")[1] not in crates:
-            names |= set(re.split(r"[,\s]+", m.group(2)))
+        if m.group(1) != "Rattle" or m.group(2) not in crates:
+            names |= set(re.split(r"[,\s]+", m.group(3)))
     return names
 
 

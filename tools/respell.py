@@ -32,7 +32,8 @@ def own(name):
     return "-" in name.strip("-") and name[0].isalpha()
 
 
-def is_folder_of_a_function(path):
+def answers_goals(path):
+    """Whether the file names goals and loops of one function, and not lemmas of its own."""
     return os.path.basename(path) in ("Answers.antt", "Invariants.antt", "Proof.antt")
 
 
@@ -57,7 +58,7 @@ def of_the_library(text, crates):
     return names
 
 
-def names_of(path, text, crates):
+def names_of(text, crates):
     """The hyphened names that a file has of its own: not of the library, and not made by the check."""
     made = {n for m in MADE.finditer(text) for n in m.groups() if n}
     kept = made | of_the_library(text, crates)
@@ -66,7 +67,7 @@ def names_of(path, text, crates):
 
 
 def turned(path, text, names, fields, crates):
-    mine = names_of(path, text, crates)
+    mine = names_of(text, crates)
 
     def turn(m):
         point, name = m.group(1), m.group(2)
@@ -90,7 +91,7 @@ def turned(path, text, names, fields, crates):
 
 
 def main():
-    crates = {c for c in os.listdir("crates")}
+    crates = set(os.listdir("crates"))
     texts = {}
     for path in files():
         with open(path, encoding="utf-8") as f:
@@ -98,8 +99,8 @@ def main():
     names, fields = set(), set()
     for path, text in texts.items():
         if path.endswith(".antt"):
-            names |= names_of(path, text, crates)
-            if not is_folder_of_a_function(path):
+            names |= names_of(text, crates)
+            if not answers_goals(path):
                 fields |= {n for n in FIELD.findall(loud(text)) if own(n)}
     plain = {m.group(2) for p, t in texts.items() if p.endswith(".antt") for m in HYPHENED.finditer(loud(t))}
     together = {}

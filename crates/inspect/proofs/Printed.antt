@@ -13,7 +13,8 @@ pub record Printed {W : Type 0} (took : W → List ℕ → W → Type 0) (f : Fo
 
 module _ {W : Type 0} {took : W → List ℕ → W → Type 0} {f : Formatter W} {whole : List ℕ} where
   pub nothing_yet : IsPlainFormatter f → Printed took f whole whole f
-  nothing_yet plain = record { front = []; put = record { wrote = writes_in_calls_nil took _; plain = plain }; split = refl }
+  nothing_yet plain =
+      record { front = []; put = record { wrote = writes_in_calls_nil took _; plain = plain }; split = refl }
 
   pub one_more : {rest item next : List ℕ} {g h : Formatter W} → Printed took f whole rest g → rest ≡ item ++ next →
       HasWritten took g item h → Printed took f whole next h

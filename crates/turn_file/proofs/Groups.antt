@@ -34,7 +34,8 @@ Weighs left weight =
 
 -- what a last group and a group before others hold
 pub last_holds : (b left : ℕ) → group.Last ≡ group_of b left → (b < 128) × (b ≡ 0 → 4 ≤ left) × (left ≡ 0 → b < 16)
-last_holds b left is = (grind (arith, nat_tests), λ zero_byte. grind (arith, nat_tests), λ fifth. grind (arith, nat_tests))
+last_holds b left is =
+    (grind (arith, nat_tests), λ zero_byte. grind (arith, nat_tests), λ fifth. grind (arith, nat_tests))
 
 pub more_holds : (b left : ℕ) → group.More ≡ group_of b left → (128 ≤ b) × (0 < left)
 more_holds b left is = (grind (arith, nat_tests), grind (arith, nat_tests))

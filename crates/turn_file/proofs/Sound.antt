@@ -81,7 +81,8 @@ module _ (file : List ℕ) (each : Bytes file) where
       )
 
 -- an entry is spelled as one byte
-pub entries_short : (workers : ℕ) (es : List ℕ) → workers ≤ 64 → AllByRecursion (λ e. e < workers) es → flat_map spell es ≡ es
+pub entries_short : (workers : ℕ) (es : List ℕ) → workers ≤ 64 → AllByRecursion (λ e. e < workers) es →
+    flat_map spell es ≡ es
 entries_short workers [] few all = refl
 entries_short workers (e ∷ es) few all =
     ap (λ xs. xs ++ flat_map spell es) (spell_short e (let k = all.0 in omega arith))

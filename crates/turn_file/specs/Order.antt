@@ -47,7 +47,8 @@ Comes (stage.Level rank count parties) item after =
 Comes (stage.Script worker workers) item after =
     (s : Script) × (item ≡ script worker s) × ScriptFits s × (after ≡ after_script worker workers)
 Comes (stage.Schedule workers) item after =
-    (es : List ℕ) × (item ≡ schedule es) × (length es < 2 ^ 32) × AllByRecursion (λ e. e < workers) es × (after ≡ stage.End)
+    (es : List ℕ) × (item ≡ schedule es) × (length es < 2 ^ 32) × AllByRecursion (λ e. e < workers) es
+    × (after ≡ stage.End)
 Comes stage.End item after = ⊥
 
 -- records that come one after another, from one stage to another

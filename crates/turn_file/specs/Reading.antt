@@ -120,7 +120,8 @@ opened (Err f) = Err f
 -- the length of a file is judged first
 abbrev pub open_file : List ℕ → Result Cursor FileFault
 open_file file =
-    cond (nat_lt longest_file (length file)) (Err TooLong) (Ok (record { file = file; place = 0; stage = stage.Levels }))
+    cond (nat_lt longest_file (length file)) (Err TooLong)
+    (Ok (record { file = file; place = 0; stage = stage.Levels }))
 
 -- the next step from where a reader stands
 abbrev pub next_from : Cursor → Result (Option Stepped) FileFault

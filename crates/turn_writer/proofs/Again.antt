@@ -1,5 +1,6 @@
 -- Records in file order, entered into a blank plan, are the records of that plan.
 use Rattle.std.proofs.Common.{◌≡◌, ℕ, ◌≤◌, List, [], ◌∷◌, ◌++◌, length, take, replicate, fold, sym, refl, ap, ◌∙◌, arith}
+use Rattle.std.proofs.lemmas.List.Sums.{fold-append}
 use Rattle.turn_file.specs.declared.plan.Level.{Level}
 use Rattle.turn_file.specs.declared.plan.Script.{Script}
 use Rattle.turn_file.specs.declared.step.Stage.TheVariants as stage
@@ -11,12 +12,6 @@ use Rattle.turn_writer.specs.Records.{level_records, script_records, records_fro
 use Rattle.turn_writer.proofs.Rows.{put_row, take_whole_row, used_row, length_used_row, records_used_row}
 use Rattle.turn_writer.proofs.Rows.{workers_used_row, levels_entered, scripts_entered}
 use Rattle.turn_writer.proofs.Sections.{in_parts}
-
--- a list that is folded in two parts
-folded_append : {A B : Type 0} (f : B → A → B) (b : B) (xs ys : List A) →
-    fold f b (xs ++ ys) ≡ fold f (fold f b xs) ys
-folded_append f b [] ys = refl
-folded_append f b (x ∷ xs) ys = folded_append f (f b x) xs ys
 
 -- a blank plan that these parts are entered into
 abbrev entered : ℕ → List Level → List Script → List ℕ → PlanNumbers
@@ -38,9 +33,9 @@ records_entered count ls ss es =
       scripts = replicate 64 no_script;
       entries = [];
     } in
-    folded_append with_item p (level_records 0 ls) (script_records 0 ss ++ (schedule es ∷ []))
+    fold-append with_item p (level_records 0 ls) (script_records 0 ss ++ (schedule es ∷ []))
     ∙ ap (λ r. fold with_item r (script_records 0 ss ++ (schedule es ∷ []))) (levels_entered p 0 ls)
-    ∙ folded_append with_item q (script_records 0 ss) (schedule es ∷ [])
+    ∙ fold-append with_item q (script_records 0 ss) (schedule es ∷ [])
     ∙ ap (λ r. with_item r (schedule es)) (scripts_entered q 0 ss)
 
 module _ (count : ℕ) (ls : List Level) (ss : List Script) (es : List ℕ) where

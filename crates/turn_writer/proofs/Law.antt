@@ -18,7 +18,6 @@ use Rattle.turn_writer.specs.Shape.{Known}
 use Rattle.turn_writer.specs.Writing.{with_space, written_length, ReadsAs, Writes}
 use Rattle.turn_writer.proofs.Again.{records_again}
 use Rattle.turn_writer.proofs.Bytes.{spelling_bytes}
-use Rattle.turn_writer.proofs.FaultCases.{case_of}
 use Rattle.turn_writer.proofs.RefusedPlans.{plan_stops, plan_too_long, plan_fault}
 use Rattle.turn_writer.proofs.AcceptedPlans.{plan_accepted}
 
@@ -123,19 +122,19 @@ module _ (p : PlanNumbers) (known : Known p) where
     refused = λ f is.
         elim (spaced_err space (file_length p) (in_file f) is) [
           | inl e ↦ fault_first f e
-          | inr e ↦ absurd (omega (arith, ap case_of e.3))
+          | inr e ↦ absurd (cc e.3)
         ];
     too_long = λ is.
         elim (spaced_err space (file_length p) TooLong is) [
           | inl e ↦ plan_too_long p known.shape e
-          | inr e ↦ absurd (omega (arith, ap case_of e.3))
+          | inr e ↦ absurd (cc e.3)
         ];
     too_short = λ is.
         elim (spaced_err space (file_length p) OutputTooShort is) [
           | inl e ↦
               absurd (elim (plan_fault p OutputTooShort e) [
-                | inl f ↦ omega (arith, ap case_of f.1)
-                | inr f ↦ omega (arith, ap case_of f)
+                | inl f ↦ cc f.1
+                | inr f ↦ cc f
               ])
           | inr e ↦ let r = length_reads e.0 e.1 in (omega (arith, e.2, r.0), r.1)
         ];
@@ -143,9 +142,9 @@ module _ (p : PlanNumbers) (known : Known p) where
         elim (spaced_err space (file_length p) (TrailingByte place) is) [
           | inl e ↦
               elim (plan_fault p (TrailingByte place) e) [
-                | inl f ↦ omega (arith, ap case_of f.1)
-                | inr f ↦ omega (arith, ap case_of f)
+                | inl f ↦ cc f.1
+                | inr f ↦ cc f
               ]
-          | inr e ↦ omega (arith, ap case_of e.3)
+          | inr e ↦ cc e.3
         ];
   }

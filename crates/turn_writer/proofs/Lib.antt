@@ -3,7 +3,6 @@ pub mod AcceptedRecords
 pub mod Again
 pub mod Bytes
 pub mod Cuts
-pub mod FaultCases
 pub mod Groups
 pub mod Law
 pub mod Layings

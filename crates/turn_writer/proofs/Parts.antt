@@ -1,6 +1,7 @@
 -- The parts of a plan's spelling.
-use Rattle.std.proofs.Common.{◌≡◌, ℕ, ◌+◌, List, [], ◌∷◌, ◌++◌, length, sym, refl, ap, ◌∙◌, append_assoc, append-nil, arith, length-append}
+use Rattle.std.proofs.Common.{◌≡◌, ℕ, ◌+◌, List, [], ◌∷◌, ◌++◌, length, ap, ◌∙◌, append-nil, arith, length-append}
 use Rattle.std.specs.List.{flat_map}
+use Rattle.std.proofs.lemmas.Grind.{flat_map-append}
 use Rattle.turn_file.specs.declared.plan.Level.{Level}
 use Rattle.turn_file.specs.declared.plan.Script.{Script}
 use Rattle.turn_file.specs.Order.{record_spelling, spelling}
@@ -8,11 +9,6 @@ use Rattle.turn_file.specs.Reading.{schedule}
 use Rattle.turn_file.specs.Spelling.{spell}
 use Rattle.turn_writer.specs.Records.{level_records, script_records, records_from}
 use Rattle.turn_writer.specs.Records.{levels_spelling, scripts_spelling}
-
-pub joined_both : {X A : Type 0} (f : X → List A) (xs ys : List X) → flat_map f (xs ++ ys) ≡ flat_map f xs ++ flat_map f ys
-joined_both f [] ys = refl
-joined_both f (x ∷ xs) ys =
-    ap (λ l. f x ++ l) (joined_both f xs ys) ∙ sym (append_assoc (f x) (flat_map f xs) (flat_map f ys))
 
 -- the bytes of a plan, where its entries have these bytes
 pub parts : (count : ℕ) (ls : List Level) (ss : List Script) (es bytes : List ℕ) → flat_map spell es ≡ bytes →
@@ -22,9 +18,9 @@ parts count ls ss es bytes is =
     let last : spelling (schedule es ∷ []) ≡ spell (length es) ++ bytes =
     append-nil (record_spelling (schedule es)) ∙ ap (λ l. spell (length es) ++ l) is in
     ap (λ l. spell count ++ l)
-    (joined_both record_spelling (level_records 0 ls) (script_records 0 ss ++ (schedule es ∷ []))
+    (flat_map-append record_spelling (level_records 0 ls) (script_records 0 ss ++ (schedule es ∷ []))
     ∙ ap (λ l. levels_spelling 0 ls ++ l)
-    (joined_both record_spelling (script_records 0 ss) (schedule es ∷ [])
+    (flat_map-append record_spelling (script_records 0 ss) (schedule es ∷ [])
     ∙ ap (λ l. scripts_spelling 0 ss ++ l) last))
 
 pub sizes : (count : ℕ) (ls : List Level) (ss : List Script) (es bytes : List ℕ) → flat_map spell es ≡ bytes →

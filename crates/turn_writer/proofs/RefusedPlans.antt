@@ -21,7 +21,6 @@ use Rattle.turn_writer.specs.Shape.{Word, Shape, Known}
 use Rattle.turn_writer.proofs.AcceptedRecords.{product, levels_reach, workers_few, scripts_reach, entries_come}
 use Rattle.turn_writer.proofs.Standing.{standing, count_stops, behind_count, levels_stops, behind_levels, scripts_stops}
 use Rattle.turn_writer.proofs.Standing.{behind_scripts, schedule_stops}
-use Rattle.turn_writer.proofs.FaultCases.{case_of}
 use Rattle.turn_writer.proofs.Parts.{sizes}
 use Rattle.turn_writer.proofs.Stops.{Stopped}
 use Rattle.turn_writer.proofs.AcceptedPlans.{count_used, used_sizes}
@@ -152,14 +151,14 @@ plan_stops p f known is =
   where
     by_fault : {at : ℕ} → Header p at → ScheduleFault (workers_of p) p.entries at (in_file f) →
         AllByRecursion Word p.entries → Stopped (plan_spelling p) at (stage.Schedule (product 1 (used_levels p))) f
-    by_fault {at} h (too_many many wrong) words = absurd (omega (arith, ap case_of wrong))
+    by_fault {at} h (too_many many wrong) words = absurd (cc wrong)
     by_fault {at} h (no_worker g few is same) words =
         let s = standing p.count (used_levels p) (used_scripts p) p.entries in
         let one : g ≡ f = cc in
         schedule_stops s f (product 1 (used_levels p)) at words (omega arith)
         (omega (arith, s.levels_stand.ends, s.scripts_stand.ends, h.ends_levels, h.ends_scripts))
         (ap (λ w. past_entries w p.entries (past (length p.entries) at)) (sym h.workers) ∙ is ∙ ap Err one)
-    by_fault {at} h (ends_late end is late wrong) words = absurd (omega (arith, ap case_of wrong))
+    by_fault {at} h (ends_late end is late wrong) words = absurd (cc wrong)
 
 spell_some : (v : ℕ) → 1 ≤ length (spell v)
 spell_some v = by_test (ltb v 128)
@@ -177,7 +176,7 @@ entries_long (e ∷ es) = omega (arith, spell_some e, entries_long es, length-ap
 pub plan_too_long : (p : PlanNumbers) → Shape p → file_length p ≡ Err TooLong → longest_file < length (plan_spelling p)
 plan_too_long p shape is =
     elim (in_order_err (past_header p) _ TooLong is) [
-      | inl e ↦ absurd (omega (arith, ap case_of e.2))
+      | inl e ↦ absurd (cc e.2)
       | inr e ↦
           by_fault (header p e.0 shape e.1) (schedule_fault (workers_of p) p.entries e.0 TooLong e.2)
     ]
@@ -191,7 +190,7 @@ plan_too_long p shape is =
           entries_long p.entries,
           sizes p.count (used_levels p) (used_scripts p) p.entries (flat_map spell p.entries) refl,
         )
-    by_fault {at} h (no_worker g few is wrong) = absurd (omega (arith, ap case_of wrong))
+    by_fault {at} h (no_worker g few is wrong) = absurd (cc wrong)
     by_fault {at} h (ends_late end is late same) =
         let m = entries_come (workers_of p) p.entries (past (length p.entries) at) end is in
         omega (

@@ -64,7 +64,8 @@ module _ {file : List ℕ} {count : ℕ} {ls : List Level} {ss : List Script} {e
       (stage.Level 0 count 1, (count, refl, some, most, refl), refl)
       (one_stands (levels count) file 0 (past count 0) s.count_stands) later
 
-  pub levels_stops : AllByRecursion LevelWords ls → length ls ≡ count → 1 ≤ count → past_levels 0 1 ls (past count 0) ≡ Err f →
+  pub levels_stops : AllByRecursion LevelWords ls → length ls ≡ count → 1 ≤ count →
+      past_levels 0 1 ls (past count 0) ≡ Err f →
       Stopped file (past count 0) (stage.Level 0 count 1) f
   levels_stops words all some is = by_list ls words all s.levels_stand is
     where
@@ -90,7 +91,8 @@ module _ {file : List ℕ} {count : ℕ} {ls : List Level} {ss : List Script} {e
           (stage.Script 0 (product 1 (l ∷ ls))) f k
           (subst (Stands (levels_spelling 0 (l ∷ ls)) file (past count 0)) there stands) later
 
-  pub scripts_stops : (workers b : ℕ) → AllByRecursion ScriptWords ss → length ss ≡ workers → 1 ≤ workers → s.at_scripts ≡ b →
+  pub scripts_stops : (workers b : ℕ) → AllByRecursion ScriptWords ss → length ss ≡ workers → 1 ≤ workers →
+      s.at_scripts ≡ b →
       past_scripts ss b ≡ Err f → Stopped file b (stage.Script 0 workers) f
   scripts_stops workers b words all some there is =
       by_list ss words all

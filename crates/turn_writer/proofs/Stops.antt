@@ -1,6 +1,7 @@
 -- Where a reader of a refused plan's spelling stops: behind records in order, at the record that is refused.
 use Rattle.std.proofs.Common.{◌≡◌, ℕ, ◌+◌, ◌*◌, List, [], ◌∷◌, ◌++◌, length, Err, sym, refl, ap, ◌∙◌, subst, inl, inr, append-nil, arith}
 use Rattle.std.specs.List.{AllByRecursion}
+use Rattle.std.proofs.lemmas.Grind.{flat_map-append}
 use Rattle.turn_file.specs.declared.fault.RecordFault.{RecordFault}
 use Rattle.turn_file.specs.declared.plan.Level.{Level}
 use Rattle.turn_file.specs.declared.plan.Script.{Script}
@@ -18,7 +19,6 @@ use Rattle.turn_writer.specs.Records.{used_level, level_spelling, script_spellin
 use Rattle.turn_writer.specs.Records.{levels_spelling, scripts_spelling}
 use Rattle.turn_writer.specs.Shape.{LevelWords, ScriptWords}
 use Rattle.turn_writer.proofs.AcceptedRecords.{in_order_both, level_comes, script_fits}
-use Rattle.turn_writer.proofs.Parts.{joined_both}
 use Rattle.turn_writer.proofs.RefusedRecords.{stop, level_refused, script_refused}
 use Rattle.turn_writer.proofs.Stages.{after_level_more, after_script_more}
 
@@ -49,7 +49,7 @@ stopped_later file at from xs to mid f order stands s = record {
   place = s.place;
   next = s.next;
   ordered = in_order_both from xs s.items mid s.next order s.ordered;
-  stands = subst (λ bytes. Stands bytes file at s.place) (sym (joined_both _ xs s.items))
+  stands = subst (λ bytes. Stands bytes file at s.place) (sym (flat_map-append _ xs s.items))
       (stands_both stands s.stands);
   refused = s.refused;
 }

@@ -1,4 +1,7 @@
 // Why no turn file is written.
+ghost use Rattle.std.specs.Prelude.{◌≡◌};
+ghost use Rattle.compose.specs.Failing.{unreadable, refused, system, IsOutOfMemory, failure_text};
+
 use crate::unreadable::Unreadable;
 use std::alloc::AllocFailed;
 use std::{fmt, io};
@@ -12,6 +15,8 @@ pub(crate) enum Failure {
 }
 
 impl fmt::Display for Failure {
+    ghost output = { failure_text };
+
     fn fmt<W: fmt::Write>(&self, f: &mut fmt::Formatter<W>) -> fmt::Result {
         match self {
             Failure::Unreadable(unreadable) => write!(f, "{unreadable}"),
@@ -22,18 +27,24 @@ impl fmt::Display for Failure {
 }
 
 impl From<Unreadable> for Failure {
+    ghost from_gives = { λ u f. f ≡ unreadable u };
+
     fn from(unreadable: Unreadable) -> Failure {
         Failure::Unreadable(unreadable)
     }
 }
 
 impl From<FileFault> for Failure {
+    ghost from_gives = { λ e f. f ≡ refused e };
+
     fn from(fault: FileFault) -> Failure {
         Failure::Refused(fault)
     }
 }
 
 impl From<io::Error> for Failure {
+    ghost from_gives = { λ e f. f ≡ system e };
+
     fn from(error: io::Error) -> Failure {
         Failure::System(error)
     }
@@ -41,6 +52,8 @@ impl From<io::Error> for Failure {
 
 // No memory for a further entry.
 impl From<AllocFailed<u8>> for Failure {
+    ghost from_gives = { λ _ f. IsOutOfMemory f };
+
     fn from(entry: AllocFailed<u8>) -> Failure {
         Failure::System(entry.into())
     }

@@ -1,4 +1,7 @@
 // Why a text cannot be read.
+ghost use Rattle.std.specs.Prelude.{Some};
+ghost use Rattle.compose.specs.Failing.{expected_text, unreadable_text};
+
 use std::fmt;
 
 // What the grammar of the text wants at some place.
@@ -19,6 +22,8 @@ pub(crate) struct Unreadable {
 }
 
 impl fmt::Display for Expected {
+    ghost output = { λ e. Some (expected_text e) };
+
     fn fmt<W: fmt::Write>(&self, f: &mut fmt::Formatter<W>) -> fmt::Result {
         match self {
             Expected::Word(word) => f.write_str(word),
@@ -31,6 +36,8 @@ impl fmt::Display for Expected {
 }
 
 impl fmt::Display for Unreadable {
+    ghost output = { λ u. Some (unreadable_text u) };
+
     fn fmt<W: fmt::Write>(&self, f: &mut fmt::Formatter<W>) -> fmt::Result {
         let Unreadable { line, expected } = self;
         write!(f, "line {line}: expected {expected}")

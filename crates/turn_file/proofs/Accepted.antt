@@ -6,9 +6,13 @@ use Rattle.turn_file.specs.declared.fault.RecordKind.TheVariants as kind
 use Rattle.turn_file.specs.declared.plan.Level.{Level}
 use Rattle.turn_file.specs.declared.plan.Script.{Script}
 use Rattle.turn_file.specs.Number.{number_at}
-use Rattle.turn_file.specs.Record.{levels_at, bad_levels, algorithm_number, algorithm_at, bad_fan_out}
-use Rattle.turn_file.specs.Record.{fan_out_at, bad_limit, limit_at, level_at, bad_script_number, script_number_at}
-use Rattle.turn_file.specs.Record.{script_at, bad_entry, entry_at, entries_end, schedule_at}
+use Rattle.turn_file.specs.Algorithm.{algorithm_number}
+use Rattle.turn_file.specs.Field.{bad_levels, bad_fan_out}
+use Rattle.turn_file.specs.Record.{levels_at, algorithm_at}
+use Rattle.turn_file.specs.Field.{bad_limit, bad_script_number}
+use Rattle.turn_file.specs.Record.{fan_out_at, limit_at, level_at, script_number_at}
+use Rattle.turn_file.specs.Field.{bad_entry}
+use Rattle.turn_file.specs.Record.{script_at, entry_at, entries_end, schedule_at}
 use Rattle.turn_file.proofs.Fields.{bind_ok, judge_ok, field_ok, algorithm_ok}
 
 -- the top level has no limit

@@ -13,9 +13,13 @@ use Rattle.turn_file.specs.declared.step.Stage.{Stage}
 use Rattle.turn_file.specs.declared.step.Stage.TheVariants as stage
 use Rattle.turn_file.specs.Order.{record_spelling, LevelFits, ScriptFits, Comes}
 use Rattle.turn_file.specs.Reading.{Item, level, script, schedule, Stepped, in_order, next_step}
-use Rattle.turn_file.specs.Record.{bind, judge, with_kind, bad_levels, levels_at, algorithm_number}
-use Rattle.turn_file.specs.Record.{bad_fan_out, fan_out_at, bad_limit, limit_at, level_at, bad_script_number}
-use Rattle.turn_file.specs.Record.{script_number_at, script_at, bad_entry, entries_end, schedule_at}
+use Rattle.turn_file.specs.Algorithm.{algorithm_number}
+use Rattle.turn_file.specs.Field.{bad_levels}
+use Rattle.turn_file.specs.Record.{bind, judge, with_kind, levels_at}
+use Rattle.turn_file.specs.Field.{bad_fan_out, bad_limit, bad_script_number}
+use Rattle.turn_file.specs.Record.{fan_out_at, limit_at, level_at}
+use Rattle.turn_file.specs.Field.{bad_entry}
+use Rattle.turn_file.specs.Record.{script_number_at, script_at, entries_end, schedule_at}
 use Rattle.turn_file.specs.Spelling.{spell, Stands}
 use Rattle.turn_file.proofs.Fields.{field_is, algorithm_is}
 use Rattle.turn_file.proofs.Sound.{Few, entries_short, stands_cut}

@@ -9,8 +9,10 @@ use Rattle.turn_file.specs.declared.fault.RecordKind.TheVariants as kind
 use Rattle.turn_file.specs.declared.plan.Algorithm.{Algorithm}
 use Rattle.turn_file.specs.declared.plan.Algorithm.TheVariants.{Ticket, Mcs}
 use Rattle.turn_file.specs.Number.{number_at}
-use Rattle.turn_file.specs.Record.{bind, judge, with_kind, field_at, algorithm_number}
-use Rattle.turn_file.specs.Record.{algorithm_of, algorithm_at, bad_fan_out}
+use Rattle.turn_file.specs.Algorithm.{algorithm_number}
+use Rattle.turn_file.specs.Record.{bind, judge, with_kind, field_at}
+use Rattle.turn_file.specs.Field.{bad_fan_out}
+use Rattle.turn_file.specs.Record.{algorithm_of, algorithm_at}
 use Rattle.turn_file.proofs.Apart.{not_both}
 
 -- what was read first, and what came of it

@@ -1,4 +1,6 @@
+pub mod Algorithm
 pub mod Fault
+pub mod Field
 pub mod Number
 pub mod Order
 pub mod Plan

@@ -10,7 +10,7 @@ use Rattle.turn_file.specs.declared.step.Stage.TheVariants as stage
 use Rattle.turn_file.specs.Fault.{longest_file, fault_place}
 use Rattle.turn_file.specs.Plan.{PlanNumbers, with_item, blank_plan}
 use Rattle.turn_file.specs.Reading.{Item, levels, level, script, schedule, after_level, after_script, next_step}
-use Rattle.turn_file.specs.Record.{algorithm_number}
+use Rattle.turn_file.specs.Algorithm.{algorithm_number}
 use Rattle.turn_file.specs.Spelling.{spell, Stands}
 
 -- the numbers of a record, each spelled out; the top level has no handoff limit

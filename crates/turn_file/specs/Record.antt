@@ -1,15 +1,19 @@
 -- What stands at a place of the file: the records, number by number.
-use Rattle.std.specs.Prelude.{ℕ, zero, suc, ◌*◌, Bool, cond, ◌||◌, List, Ok, Err, Result, ◌==◌, nat_le, nat_lt}
+use Rattle.std.specs.Prelude.{ℕ, zero, suc, Bool, cond, List, Ok, Err, Result, ◌==◌}
 use Rattle.turn_file.specs.declared.fault.NumberFault.{NumberFault}
 use Rattle.turn_file.specs.declared.fault.RecordFault.{RecordFault}
 use Rattle.turn_file.specs.declared.fault.RecordFault.TheVariants as fault
 use Rattle.turn_file.specs.declared.fault.RecordKind.{RecordKind}
 use Rattle.turn_file.specs.declared.fault.RecordKind.TheVariants as kind
+use Rattle.turn_file.specs.declared.field.Field.{Field}
+use Rattle.turn_file.specs.declared.field.Field.TheVariants as field
 use Rattle.turn_file.specs.declared.plan.Algorithm.{Algorithm}
 use Rattle.turn_file.specs.declared.plan.Algorithm.TheVariants.{Ticket, Mcs}
 use Rattle.turn_file.specs.declared.plan.Level.{Level}
 use Rattle.turn_file.specs.declared.plan.Script.{Script}
+use Rattle.turn_file.specs.Algorithm.{algorithm_number}
 use Rattle.turn_file.specs.Fault.{in_record}
+use Rattle.turn_file.specs.Field.{field_kind, field_refuses, field_fault}
 use Rattle.turn_file.specs.Number.{number_at}
 
 -- a number's fault goes with the kind of the record that the number is of
@@ -36,17 +40,13 @@ bind (Err f) next = Err f
 abbrev pub field_at : RecordKind → (ℕ → Bool) → RecordFault → List ℕ → ℕ → Result (ℕ × ℕ) RecordFault
 field_at k bad f file at = judge (number_in k file at) (λ n. cond (bad n.0) (Err f) (Ok n))
 
--- how many levels there are: 1 to 4
-abbrev pub bad_levels : ℕ → Bool
-bad_levels n = nat_lt n 1 || nat_lt 4 n
+-- a number that only some values fit
+abbrev pub value_at : Field → List ℕ → ℕ → Result (ℕ × ℕ) RecordFault
+value_at field file at = field_at (field_kind field) (field_refuses field) (field_fault field at) file at
 
+-- how many levels there are
 abbrev pub levels_at : List ℕ → ℕ → Result (ℕ × ℕ) RecordFault
-levels_at file at = field_at kind.Levels bad_levels (fault.LevelCount at) file at
-
--- the number of each algorithm
-abbrev pub algorithm_number : Algorithm → ℕ
-algorithm_number Ticket = 1
-algorithm_number Mcs = 2
+levels_at file at = value_at field.LevelCount file at
 
 abbrev pub algorithm_of : ℕ → RecordFault → Result Algorithm RecordFault
 algorithm_of n f =
@@ -56,20 +56,13 @@ abbrev pub algorithm_at : List ℕ → ℕ → Result (Algorithm × ℕ) RecordF
 algorithm_at file at =
     judge (number_in kind.Level file at) (λ n. bind (algorithm_of n.0 (fault.Algorithm at)) (λ a. Ok (a, n.1)))
 
--- the members of each lane, where the levels above have so many parties: some, and all lanes together at most 64
-abbrev pub bad_fan_out : ℕ → ℕ → Bool
-bad_fan_out parties n = nat_lt n 1 || nat_lt 64 (parties * n)
-
+-- the members of each lane, where the levels above have so many parties
 abbrev pub fan_out_at : ℕ → List ℕ → ℕ → Result (ℕ × ℕ) RecordFault
-fan_out_at parties file at = field_at kind.Level (bad_fan_out parties) (fault.FanOut at) file at
+fan_out_at parties file at = value_at (field.FanOut parties) file at
 
--- the handoff limit of a level with so many levels above it: 1 to 65,535, and the top level has none
-abbrev pub bad_limit : ℕ → Bool
-bad_limit n = nat_lt n 1 || nat_lt 65535 n
-
+-- the handoff limit of a level with so many levels above it: the top level has none
 abbrev pub limit_at : ℕ → List ℕ → ℕ → Result (ℕ × ℕ) RecordFault
-limit_at rank file at =
-    cond (rank == 0) (Ok (0, at)) (field_at kind.Level bad_limit (fault.HandoffLimit at) file at)
+limit_at rank file at = cond (rank == 0) (Ok (0, at)) (value_at field.HandoffLimit file at)
 
 abbrev pub level_at : ℕ → ℕ → List ℕ → ℕ → Result (Level × ℕ) RecordFault
 level_at rank parties file at =
@@ -78,12 +71,9 @@ level_at rank parties file at =
     bind (limit_at rank file f.1) (λ h.
     Ok (record { algorithm = a.0; fan_out = f.0; handoff_limit = h.0 }, h.1))))
 
--- turns, rest and hold: at most 65,535 each
-abbrev pub bad_script_number : ℕ → Bool
-bad_script_number n = nat_lt 65535 n
-
+-- turns, rest or hold
 abbrev pub script_number_at : List ℕ → ℕ → Result (ℕ × ℕ) RecordFault
-script_number_at file at = field_at kind.Script bad_script_number (fault.ScriptNumber at) file at
+script_number_at file at = value_at field.ScriptNumber file at
 
 abbrev pub script_at : List ℕ → ℕ → Result (Script × ℕ) RecordFault
 script_at file at =
@@ -92,12 +82,9 @@ script_at file at =
     bind (script_number_at file r.1) (λ h.
     Ok (record { turns = t.0; rest = r.0; hold = h.0 }, h.1))))
 
--- an entry of the schedule: a worker
-abbrev pub bad_entry : ℕ → ℕ → Bool
-bad_entry workers n = nat_le workers n
-
+-- an entry of the schedule
 abbrev pub entry_at : ℕ → List ℕ → ℕ → Result (ℕ × ℕ) RecordFault
-entry_at workers file at = field_at kind.Schedule (bad_entry workers) (fault.Entry at) file at
+entry_at workers file at = value_at (field.Entry workers) file at
 
 -- the place after so many entries
 abbrev pub entries_end : ℕ → ℕ → List ℕ → ℕ → Result ℕ RecordFault

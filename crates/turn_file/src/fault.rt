@@ -93,6 +93,14 @@ impl fmt::Display for FaultNumbers {
     }
 }
 
+impl fmt::Display for FileFault {
+    ghost output = { λ fault. Some (fault_line (fault_numbers fault)) };
+
+    fn fmt<W: fmt::Write>(&self, f: &mut fmt::Formatter<W>) -> fmt::Result {
+        write!(f, "{}", self.numbers())
+    }
+}
+
 // A number's fault is raised with the kind of the record that the number is of.
 impl From<(RecordKind, NumberFault)> for RecordFault {
     ghost from_gives = { λ n r. r ≡ in_record n.0 n.1 };
@@ -111,11 +119,11 @@ impl From<RecordFault> for FileFault {
     }
 }
 
-impl RecordKind {
-    fn number(self) -> u8
-        ensures { result ≡ kind_number self }
-    {
-        match self {
+impl From<RecordKind> for u8 {
+    ghost from_gives = { λ kind n. n ≡ kind_number kind };
+
+    fn from(kind: RecordKind) -> u8 {
+        match kind {
             RecordKind::Levels => 1,
             RecordKind::Level => 2,
             RecordKind::Script => 3,
@@ -124,11 +132,11 @@ impl RecordKind {
     }
 }
 
-impl Layer {
-    fn number(self) -> u8
-        ensures { result ≡ layer_number self }
-    {
-        match self {
+impl From<Layer> for u8 {
+    ghost from_gives = { λ layer n. n ≡ layer_number layer };
+
+    fn from(layer: Layer) -> u8 {
+        match layer {
             Layer::Number => 1,
             Layer::Record => 2,
             Layer::File => 3,
@@ -151,9 +159,9 @@ impl NumberFault {
         ensures { result ≡ number_place self }
     {
         match self {
-            NumberFault::Ends { place } => place,
-            NumberFault::Padded { place } => place,
-            NumberFault::TooLarge { place } => place,
+            NumberFault::Ends { place }
+            | NumberFault::Padded { place }
+            | NumberFault::TooLarge { place } => place,
         }
     }
 }
@@ -178,12 +186,12 @@ impl RecordFault {
     {
         match self {
             RecordFault::Number { fault, .. } => fault.place(),
-            RecordFault::LevelCount { place } => place,
-            RecordFault::Algorithm { place } => place,
-            RecordFault::FanOut { place } => place,
-            RecordFault::HandoffLimit { place } => place,
-            RecordFault::ScriptNumber { place } => place,
-            RecordFault::Entry { place } => place,
+            RecordFault::LevelCount { place }
+            | RecordFault::Algorithm { place }
+            | RecordFault::FanOut { place }
+            | RecordFault::HandoffLimit { place }
+            | RecordFault::ScriptNumber { place }
+            | RecordFault::Entry { place } => place,
         }
     }
 
@@ -193,9 +201,9 @@ impl RecordFault {
         match self {
             RecordFault::Number { kind, .. } => kind,
             RecordFault::LevelCount { .. } => RecordKind::Levels,
-            RecordFault::Algorithm { .. } => RecordKind::Level,
-            RecordFault::FanOut { .. } => RecordKind::Level,
-            RecordFault::HandoffLimit { .. } => RecordKind::Level,
+            RecordFault::Algorithm { .. }
+            | RecordFault::FanOut { .. }
+            | RecordFault::HandoffLimit { .. } => RecordKind::Level,
             RecordFault::ScriptNumber { .. } => RecordKind::Script,
             RecordFault::Entry { .. } => RecordKind::Schedule,
         }
@@ -239,7 +247,7 @@ impl FileFault {
         ensures { result ≡ fault_kind self }
     {
         match self {
-            FileFault::Record { fault } => fault.kind().number(),
+            FileFault::Record { fault } => u8::from(fault.kind()),
             _ => 0,
         }
     }
@@ -261,7 +269,7 @@ impl FileFault {
             cause: self.cause(),
             place: self.place(),
             kind: self.kind(),
-            layer: self.layer().number(),
+            layer: u8::from(self.layer()),
         }
     }
 }

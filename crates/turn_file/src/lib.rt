@@ -2,11 +2,12 @@
 #![tactic(auto)]
 
 pub mod fault;
-mod field;
+pub mod field;
 pub mod limits;
 pub mod number;
 pub mod plan;
 pub mod plan_reader;
 pub mod reader;
 pub mod record;
+mod scan;
 mod step;

@@ -1,12 +1,57 @@
 // What a turn file says: the stack of locks, each worker's script, and the order in which the workers ran.
-ghost use Rattle.std.specs.Prelude.{◌≡◌};
+ghost use Rattle.std.specs.Prelude.{◌≡◌, Some};
+ghost use Rattle.turn_file.specs.Algorithm.{algorithm_number, algorithm_from, unknown_algorithm_text};
 ghost use Rattle.turn_file.specs.Plan.{plan_numbers, blank_plan, lanes_below, used_levels, workers_of, used_scripts};
+
+use std::error::Error;
+use std::fmt;
 
 // How the locks of a level work.
 #[derive(Clone, Copy, PartialEq, Eq, Debug)]
 pub enum Algorithm {
     Ticket,
     Mcs,
+}
+
+// A number that stands for no algorithm.
+#[derive(Clone, Copy, PartialEq, Eq, Debug)]
+pub struct UnknownAlgorithm {
+    pub number: u32,
+}
+
+impl fmt::Display for UnknownAlgorithm {
+    ghost output = { λ unknown. Some (unknown_algorithm_text unknown.number) };
+
+    fn fmt<W: fmt::Write>(&self, f: &mut fmt::Formatter<W>) -> fmt::Result {
+        write!(f, "{} is no algorithm", self.number)
+    }
+}
+
+impl Error for UnknownAlgorithm {}
+
+impl From<Algorithm> for u32 {
+    ghost from_gives = { λ algorithm n. n ≡ algorithm_number algorithm };
+
+    fn from(algorithm: Algorithm) -> u32 {
+        match algorithm {
+            Algorithm::Ticket => 1,
+            Algorithm::Mcs => 2,
+        }
+    }
+}
+
+impl TryFrom<u32> for Algorithm {
+    type Error = UnknownAlgorithm;
+
+    ghost try_from_gives = { λ n r. r ≡ algorithm_from n };
+
+    fn try_from(number: u32) -> Result<Algorithm, UnknownAlgorithm> {
+        match number {
+            1 => Ok(Algorithm::Ticket),
+            2 => Ok(Algorithm::Mcs),
+            _ => Err(UnknownAlgorithm { number }),
+        }
+    }
 }
 
 // A level of the stack. Each party of the level above has a lane here, and each lane `fan_out` members.

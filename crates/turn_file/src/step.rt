@@ -5,8 +5,8 @@ ghost use Rattle.turn_file.specs.Reading.{after_level, after_script, seen_step, 
 ghost use Rattle.turn_file.specs.Reading.{levels_step, level_step, script_step, schedule_step, next_step};
 
 use crate::fault::{FileFault, RecordFault};
-use crate::field::{read_level, read_levels, read_schedule, read_script};
 use crate::record::{Part, Record};
+use crate::scan::{read_level, read_levels, read_schedule, read_script};
 
 // Which record comes next. `parties` is the product of the fan-outs so far.
 #[derive(Clone, Copy)]

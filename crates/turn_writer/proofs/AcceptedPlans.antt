@@ -14,7 +14,7 @@ use Rattle.turn_file.specs.declared.step.Stage.TheVariants as stage
 use Rattle.turn_file.specs.Fault.{longest_file}
 use Rattle.turn_file.specs.Order.{InOrder, spelling}
 use Rattle.turn_file.specs.Plan.{PlanNumbers, used_levels, workers_of, used_scripts}
-use Rattle.turn_file.specs.Record.{bad_levels}
+use Rattle.turn_file.specs.Field.{bad_levels}
 use Rattle.turn_file.specs.Spelling.{spell}
 use Rattle.turn_file.proofs.Apart.{not_both}
 use Rattle.turn_file.proofs.Fields.{bind_ok}

@@ -11,7 +11,8 @@ use Rattle.turn_file.specs.declared.step.Stage.TheVariants as stage
 use Rattle.turn_file.specs.Plan.{lanes_below}
 use Rattle.turn_file.specs.Order.{ScriptFits, Comes, InOrder}
 use Rattle.turn_file.specs.Reading.{Item, level, after_level, after_script}
-use Rattle.turn_file.specs.Record.{algorithm_number, bad_fan_out, bad_limit, bad_script_number, bad_entry}
+use Rattle.turn_file.specs.Algorithm.{algorithm_number}
+use Rattle.turn_file.specs.Field.{bad_fan_out, bad_limit, bad_script_number, bad_entry}
 use Rattle.turn_file.specs.Spelling.{spell}
 use Rattle.turn_file.proofs.Fields.{bind_ok, fan_out_fits}
 use Rattle.turn_writer.specs.Judgement.{past, past_fan_out, past_limit, past_level, past_levels}

@@ -3,7 +3,7 @@ use Rattle.std.proofs.Common.{ℕ, zero, suc, Bool, true, false, cond, eqb, List
 use Rattle.std.specs.List.{flat_map}
 use Rattle.turn_file.specs.Order.{record_spelling, spelling}
 use Rattle.turn_file.specs.Reading.{Item, levels, level, script, schedule}
-use Rattle.turn_file.specs.Record.{algorithm_number}
+use Rattle.turn_file.specs.Algorithm.{algorithm_number}
 use Rattle.turn_file.specs.Spelling.{spell, Bytes}
 use Rattle.turn_file.proofs.Spelled.{one_spelling}
 

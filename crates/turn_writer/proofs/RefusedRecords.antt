@@ -10,10 +10,14 @@ use Rattle.turn_file.specs.declared.plan.Level.{Level}
 use Rattle.turn_file.specs.declared.plan.Script.{Script}
 use Rattle.turn_file.specs.Order.{record_spelling}
 use Rattle.turn_file.specs.Reading.{schedule}
-use Rattle.turn_file.specs.Record.{bind, judge, with_kind, field_at, algorithm_number}
-use Rattle.turn_file.specs.Record.{bad_fan_out, bad_limit, limit_at, level_at}
-use Rattle.turn_file.specs.Record.{bad_script_number, script_number_at, script_at}
-use Rattle.turn_file.specs.Record.{bad_entry, entry_at, entries_end, schedule_at}
+use Rattle.turn_file.specs.Algorithm.{algorithm_number}
+use Rattle.turn_file.specs.Record.{bind, judge, with_kind, field_at}
+use Rattle.turn_file.specs.Field.{bad_fan_out, bad_limit}
+use Rattle.turn_file.specs.Record.{limit_at, level_at}
+use Rattle.turn_file.specs.Field.{bad_script_number}
+use Rattle.turn_file.specs.Record.{script_number_at, script_at}
+use Rattle.turn_file.specs.Field.{bad_entry}
+use Rattle.turn_file.specs.Record.{entry_at, entries_end, schedule_at}
 use Rattle.turn_file.specs.Spelling.{spell, Stands}
 use Rattle.turn_file.proofs.Apart.{not_both}
 use Rattle.turn_file.proofs.Complete.{algorithm_small, bind_is}

@@ -6,7 +6,8 @@ use Rattle.turn_file.specs.declared.fault.RecordFault.TheVariants.{LevelCount, H
 use Rattle.turn_file.specs.declared.plan.Level.{Level}
 use Rattle.turn_file.specs.declared.plan.Script.{Script}
 use Rattle.turn_file.specs.Plan.{PlanNumbers, used_levels, workers_of, used_scripts}
-use Rattle.turn_file.specs.Record.{algorithm_number, bad_levels, bad_fan_out, bad_limit, bad_script_number, bad_entry}
+use Rattle.turn_file.specs.Algorithm.{algorithm_number}
+use Rattle.turn_file.specs.Field.{bad_levels, bad_fan_out, bad_limit, bad_script_number, bad_entry}
 use Rattle.turn_file.specs.Spelling.{spell_in, spell}
 use Rattle.turn_file.proofs.Apart.{not_both}
 use Rattle.turn_file.proofs.Fields.{bind_ok, fan_out_fits}

@@ -9,7 +9,7 @@ use Rattle.turn_file.specs.declared.plan.Script.{Script}
 use Rattle.turn_file.specs.declared.step.Stage.TheVariants as stage
 use Rattle.turn_file.specs.Order.{spelling}
 use Rattle.turn_file.specs.Reading.{levels, in_order}
-use Rattle.turn_file.specs.Record.{bad_levels}
+use Rattle.turn_file.specs.Field.{bad_levels}
 use Rattle.turn_file.specs.Spelling.{spell, Stands}
 use Rattle.turn_file.proofs.Orders.{stands_whole}
 use Rattle.turn_file.proofs.Spelled.{stands_split}

@@ -9,8 +9,10 @@ use Rattle.turn_file.specs.declared.plan.Level.{Level}
 use Rattle.turn_file.specs.declared.plan.Script.{Script}
 use Rattle.turn_file.specs.Fault.{in_file, longest_file}
 use Rattle.turn_file.specs.Plan.{PlanNumbers, used_levels, workers_of, used_scripts}
-use Rattle.turn_file.specs.Record.{bind, algorithm_number, bad_levels, bad_fan_out, bad_limit}
-use Rattle.turn_file.specs.Record.{bad_script_number, bad_entry}
+use Rattle.turn_file.specs.Algorithm.{algorithm_number}
+use Rattle.turn_file.specs.Field.{bad_levels, bad_fan_out, bad_limit}
+use Rattle.turn_file.specs.Record.{bind}
+use Rattle.turn_file.specs.Field.{bad_script_number, bad_entry}
 use Rattle.turn_file.specs.Spelling.{spell}
 
 -- the place after a number that stands at `at`

@@ -1,6 +1,6 @@
 // The number that stands for an algorithm.
 ghost use Rattle.std.specs.Prelude.{◌≡◌};
-ghost use Rattle.turn_file.specs.Record.{algorithm_number};
+ghost use Rattle.turn_file.specs.Algorithm.{algorithm_number};
 
 use turn_file::plan::Algorithm;
 

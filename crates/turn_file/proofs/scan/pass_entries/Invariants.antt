@@ -1,6 +1,6 @@
 use Rattle.std.proofs.Common.{◌≡◌, ◌-◌}
 use Rattle.turn_file.specs.Record.{entries_end}
-use Rattle.turn_file.proofs.field.pass_entries.Given as goal
+use Rattle.turn_file.proofs.scan.pass_entries.Given as goal
 
 -- what is left to pass ends where all entries end
 abbrev pub invariant-loop : goal.invariant-loop

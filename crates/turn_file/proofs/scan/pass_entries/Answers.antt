@@ -1,7 +1,7 @@
 use Rattle.std.proofs.Common.{Err, sym, ap, ◌∙◌}
 use Rattle.std.proofs.lemmas.Result.{err_from_is_err_and}
 use Rattle.turn_file.proofs.Entries.{after_one, entries_more}
-use Rattle.turn_file.proofs.field.pass_entries.Goals as goal
+use Rattle.turn_file.proofs.scan.pass_entries.Goals as goal
 
 pub returns-in_err-after : goal.returns-in_err-after
 returns-in_err-after c =

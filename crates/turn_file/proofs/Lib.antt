@@ -3,7 +3,6 @@ pub mod Apart
 pub mod Complete
 pub mod Entries
 pub mod Fields
-pub mod Fronts
 pub mod Groups
 pub mod Orders
 pub mod Plans

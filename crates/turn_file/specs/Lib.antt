@@ -6,4 +6,5 @@ pub mod Order
 pub mod Plan
 pub mod Reading
 pub mod Record
+pub mod Scanning
 pub mod Spelling

@@ -111,7 +111,7 @@ pub record Cursor : Type 0 where
   pub stage : Stage
 
 abbrev pub cursor_of : Reader → Cursor
-cursor_of r = record { file = r.file.now; place = r.place; stage = r.stage }
+cursor_of r = record { file = r.scan.file.now; place = r.scan.place; stage = r.stage }
 
 abbrev pub opened : Result Reader FileFault → Result Cursor FileFault
 opened (Ok r) = Ok (cursor_of r)

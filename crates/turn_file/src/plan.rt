@@ -1,5 +1,5 @@
 // What a turn file says: the stack of locks, each worker's script, and the order in which the workers ran.
-ghost use Rattle.std.specs.Prelude.{◌≡◌, Some};
+ghost use Rattle.std.specs.Prelude.{◌≡◌, Some, take};
 ghost use Rattle.turn_file.specs.Algorithm.{algorithm_number, algorithm_from, unknown_algorithm_text};
 ghost use Rattle.turn_file.specs.Plan.{plan_numbers, blank_plan, lanes_below, used_levels, workers_of, used_scripts};
 
@@ -7,8 +7,9 @@ use std::error::Error;
 use std::fmt;
 
 // How the locks of a level work.
-#[derive(Clone, Copy, PartialEq, Eq, Debug)]
+#[derive(Clone, Copy, PartialEq, Eq, Debug, Default)]
 pub enum Algorithm {
+    #[default]
     Ticket,
     Mcs,
 }
@@ -57,7 +58,7 @@ impl TryFrom<u32> for Algorithm {
 // A level of the stack. Each party of the level above has a lane here, and each lane `fan_out` members.
 // After `handoff_limit` turns in a row a lane gives the upper lock back.
 // The top level has no limit, and 0 in its place.
-#[derive(Clone, Copy, PartialEq, Eq, Debug)]
+#[derive(Clone, Copy, PartialEq, Eq, Debug, Default)]
 pub struct Level {
     pub algorithm: Algorithm,
     pub fan_out: u32,
@@ -66,7 +67,7 @@ pub struct Level {
 
 // What a worker does: so many turns, with so many plays of rest before each,
 // and so many of work while it holds the lock.
-#[derive(Clone, Copy, PartialEq, Eq, Debug)]
+#[derive(Clone, Copy, PartialEq, Eq, Debug, Default)]
 pub struct Script {
     pub turns: u32,
     pub rest: u32,
@@ -84,18 +85,6 @@ pub struct Plan<'a> {
     pub schedule: &'a [u8],
 }
 
-const NO_LEVEL: Level = Level {
-    algorithm: Algorithm::Ticket,
-    fan_out: 0,
-    handoff_limit: 0,
-};
-
-const NO_SCRIPT: Script = Script {
-    turns: 0,
-    rest: 0,
-    hold: 0,
-};
-
 impl Level {
     // The lanes of the level below, where this one has so many lanes; at most what 32 bits hold.
     pub fn lanes_below(&self, lanes: u32) -> u32
@@ -112,8 +101,8 @@ impl<'a> Plan<'a> {
     {
         Plan {
             level_count: 0,
-            levels: [NO_LEVEL; 4],
-            scripts: [NO_SCRIPT; 64],
+            levels: [Level::default(); 4],
+            scripts: [Script::default(); 64],
             schedule: &[],
         }
     }
@@ -122,26 +111,29 @@ impl<'a> Plan<'a> {
     pub fn used_levels(&self) -> &[Level]
         ensures { result.now ≡ used_levels (plan_numbers self.now) }
     {
-        let count = self.levels.len().min(self.level_count as usize);
-        &self.levels[0..count]
+        front(&self.levels, self.level_count as usize)
     }
 
     // How many workers there are: as many as the level below the last would have lanes.
     pub fn workers(&self) -> u32
         ensures { result ≡ workers_of (plan_numbers self.now) }
     {
-        let mut workers = 1;
-        for level in self.used_levels() {
-            workers = level.lanes_below(workers);
-        }
-        workers
+        self.used_levels()
+            .iter()
+            .fold(1, |lanes, level| level.lanes_below(lanes))
     }
 
     // The workers' scripts.
     pub fn used_scripts(&self) -> &[Script]
         ensures { result.now ≡ used_scripts (plan_numbers self.now) }
     {
-        let count = self.scripts.len().min(self.workers() as usize);
-        &self.scripts[0..count]
+        front(&self.scripts, self.workers() as usize)
     }
+}
+
+// As much of a table as is used, and no more than there is.
+fn front<T>(table: &[T], used: usize) -> &[T]
+    ensures { result.now ≡ take used table.now }
+{
+    &table[..table.len().min(used)]
 }

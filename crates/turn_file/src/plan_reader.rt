@@ -1,10 +1,9 @@
 // Reads a whole turn file into a plan.
-ghost use Rattle.std.specs.Prelude.{◌≡◌};
+ghost use Rattle.std.specs.Prelude.{◌≡◌, length};
 ghost use Rattle.turn_file.specs.Order.{ReadWhole};
-ghost use Rattle.turn_file.specs.Plan.{plan_numbers, with_record, plan_of, judgement, filled};
+ghost use Rattle.turn_file.specs.Plan.{plan_numbers, put, with_record, plan_of, judgement, filled};
 
 use crate::fault::FileFault;
-use crate::limits::{MOST_LEVELS, MOST_WORKERS};
 use crate::plan::Plan;
 use crate::reader::Reader;
 use crate::record::Record;
@@ -16,18 +15,23 @@ impl<'a> Plan<'a> {
     {
         match record {
             Record::Levels { count, .. } => self.level_count = count,
-            Record::Level { rank, level, .. } => {
-                if rank < MOST_LEVELS {
-                    self.levels[rank as usize] = level;
-                }
-            }
-            Record::Script { worker, script, .. } => {
-                if worker < MOST_WORKERS {
-                    self.scripts[worker as usize] = script;
-                }
-            }
+            Record::Level { rank, level, .. } => put(&mut self.levels, rank as usize, level),
+            Record::Script { worker, script, .. } => put(
+                &mut self.scripts,
+                worker as usize,
+                script,
+            ),
             Record::Schedule { part } => self.schedule = part.bytes,
         }
+    }
+}
+
+// Puts a value at its place in a table that has the place.
+fn put<T: Copy>(table: &mut [T], place: usize, value: T)
+    ensures { table.new ≡ put (length table.old) table.old place value }
+{
+    if place < table.len() {
+        table[place] = value;
     }
 }
 

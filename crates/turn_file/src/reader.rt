@@ -5,13 +5,13 @@ ghost use Rattle.turn_file.specs.Reading.{opened, open_file, seen_answer, handed
 use crate::fault::FileFault;
 use crate::limits::LONGEST_FILE;
 use crate::record::Record;
-use crate::step::{Stage, step_next};
+use crate::scan::Scan;
+use crate::step::Stage;
 
-// A file that is being read, the place that was reached, and which record comes next.
+// Where a file is read, and which record comes next.
 #[derive(Drop)]
 pub struct Reader<'a> {
-    file: &'a [u8],
-    place: usize,
+    scan: Scan<'a>,
     stage: Stage,
 }
 
@@ -24,8 +24,7 @@ impl<'a> Reader<'a> {
             return Err(FileFault::TooLong);
         }
         Ok(Reader {
-            file,
-            place: 0,
+            scan: Scan { file, place: 0 },
             stage: Stage::Levels,
         })
     }
@@ -35,13 +34,11 @@ impl<'a> Reader<'a> {
         ensures answer { seen_answer result ≡ handed_out (next_from (cursor_of self.old)) }
         ensures after { cursor_of self.new ≡ moved (cursor_of self.old) }
     {
-        match step_next(self.file, self.place, self.stage)? {
-            Some(step) => {
-                self.place = step.next;
-                self.stage = step.stage;
-                Ok(Some(step.record))
-            }
-            None => Ok(None),
-        }
+        let Some(step) = self.scan.step(self.stage)? else {
+            return Ok(None);
+        };
+        self.scan.place = step.next;
+        self.stage = step.stage;
+        Ok(Some(step.record))
     }
 }

@@ -1,147 +1,107 @@
-// Reads the records, each a row of numbers. A number is judged as a number, then by its value,
+// Reads the records of a file, each a row of numbers. A number is judged as a number, then by its value,
 // before the next is read.
 ghost use Rattle.std.specs.Prelude.{◌≡◌};
-ghost use Rattle.turn_file.specs.Record.{number_in, levels_at};
-ghost use Rattle.turn_file.specs.Record.{algorithm_at, fan_out_at, limit_at, level_at};
-ghost use Rattle.turn_file.specs.Record.{script_number_at, script_at, entry_at, entries_end, schedule_at};
+ghost use Rattle.turn_file.specs.Record.{number_in, value_at, algorithm_at, limit_at, level_at};
+ghost use Rattle.turn_file.specs.Record.{script_at, entries_end, schedule_at};
+ghost use Rattle.turn_file.specs.Scanning.{read_to, passed_to};
 
 use crate::fault::{NumberFault, RecordFault, RecordKind};
-use crate::limits::{LARGEST_SETTING, MOST_LEVELS, MOST_WORKERS};
+use crate::field::Field;
 use crate::number::read_number;
 use crate::plan::{Algorithm, Level, Script};
 
-// A number of a record of this kind.
-fn number_in(
-    kind: RecordKind,
-    file: &[u8],
-    at: usize,
-) -> Result<(u32, usize), (RecordKind, NumberFault)>
-    ensures { result ≡ number_in kind file.now at }
-{
-    match read_number(file, at) {
-        Ok(number) => Ok(number),
-        Err(fault) => Err((kind, fault)),
+// A file, and the place that is read next.
+#[derive(Clone, Copy)]
+pub(crate) struct Scan<'a> {
+    pub(crate) file: &'a [u8],
+    pub(crate) place: usize,
+}
+
+impl Scan<'_> {
+    // A number of a record of this kind.
+    fn number(&mut self, kind: RecordKind) -> Result<u32, (RecordKind, NumberFault)>
+        ensures read { read_to result self.new.place ≡ number_in kind self.old.file.now self.old.place }
+        ensures file { self.new.file ≡ self.old.file }
+    {
+        let (value, next) = read_number(self.file, self.place).map_err(|fault| (kind, fault))?;
+        self.place = next;
+        Ok(value)
     }
-}
 
-// How many levels there are.
-pub(crate) fn read_levels(file: &[u8], at: usize) -> Result<(u32, usize), RecordFault>
-    ensures { result ≡ levels_at file.now at }
-{
-    let (count, next) = number_in(RecordKind::Levels, file, at)?;
-    if count < 1 || count > MOST_LEVELS {
-        return Err(RecordFault::LevelCount { place: at });
+    // A number that only some values fit.
+    pub(crate) fn value(&mut self, field: Field) -> Result<u32, RecordFault>
+        ensures read { read_to result self.new.place ≡ value_at field self.old.file.now self.old.place }
+        ensures file { self.new.file ≡ self.old.file }
+    {
+        let place = self.place;
+        let value = self.number(field.kind())?;
+        field.judge(value, place)?;
+        Ok(value)
     }
-    Ok((count, next))
-}
 
-fn read_algorithm(file: &[u8], at: usize) -> Result<(Algorithm, usize), RecordFault>
-    ensures { result ≡ algorithm_at file.now at }
-{
-    let (number, next) = number_in(RecordKind::Level, file, at)?;
-    match number {
-        1 => Ok((Algorithm::Ticket, next)),
-        2 => Ok((Algorithm::Mcs, next)),
-        _ => Err(RecordFault::Algorithm { place: at }),
+    fn algorithm(&mut self) -> Result<Algorithm, RecordFault>
+        ensures read { read_to result self.new.place ≡ algorithm_at self.old.file.now self.old.place }
+        ensures file { self.new.file ≡ self.old.file }
+    {
+        let place = self.place;
+        let number = self.number(RecordKind::Level)?;
+        Algorithm::try_from(number).map_err(|_| RecordFault::Algorithm { place })
     }
-}
 
-// The members of each lane, where the levels above have `parties` parties.
-fn read_fan_out(file: &[u8], at: usize, parties: u32) -> Result<(u32, usize), RecordFault>
-    ensures { result ≡ fan_out_at parties file.now at }
-{
-    let (fan_out, next) = number_in(RecordKind::Level, file, at)?;
-    if fan_out < 1 || u64::from(parties) * u64::from(fan_out) > u64::from(MOST_WORKERS) {
-        return Err(RecordFault::FanOut { place: at });
+    // The handoff limit of a level with `rank` levels above it: the top level has none.
+    fn handoff_limit(&mut self, rank: u32) -> Result<u32, RecordFault>
+        ensures read { read_to result self.new.place ≡ limit_at rank self.old.file.now self.old.place }
+        ensures file { self.new.file ≡ self.old.file }
+    {
+        if rank == 0 {
+            Ok(0)
+        } else {
+            self.value(Field::HandoffLimit)
+        }
     }
-    Ok((fan_out, next))
-}
 
-// The handoff limit of a level with `rank` levels above it: the top level has none.
-fn read_handoff_limit(file: &[u8], at: usize, rank: u32) -> Result<(u32, usize), RecordFault>
-    ensures { result ≡ limit_at rank file.now at }
-{
-    if rank == 0 {
-        return Ok((0, at));
+    // A level with `rank` levels above it, which have `parties` parties.
+    pub(crate) fn level(&mut self, rank: u32, parties: u32) -> Result<Level, RecordFault>
+        ensures read { read_to result self.new.place ≡ level_at rank parties self.old.file.now self.old.place }
+        ensures file { self.new.file ≡ self.old.file }
+    {
+        Ok(Level {
+            algorithm: self.algorithm()?,
+            fan_out: self.value(Field::FanOut { parties })?,
+            handoff_limit: self.handoff_limit(rank)?,
+        })
     }
-    let (limit, next) = number_in(RecordKind::Level, file, at)?;
-    if limit < 1 || limit > LARGEST_SETTING {
-        return Err(RecordFault::HandoffLimit { place: at });
+
+    pub(crate) fn script(&mut self) -> Result<Script, RecordFault>
+        ensures read { read_to result self.new.place ≡ script_at self.old.file.now self.old.place }
+        ensures file { self.new.file ≡ self.old.file }
+    {
+        Ok(Script {
+            turns: self.value(Field::ScriptNumber)?,
+            rest: self.value(Field::ScriptNumber)?,
+            hold: self.value(Field::ScriptNumber)?,
+        })
     }
-    Ok((limit, next))
-}
 
-// A level with `rank` levels above it, which have `parties` parties.
-pub(crate) fn read_level(
-    file: &[u8],
-    at: usize,
-    rank: u32,
-    parties: u32,
-) -> Result<(Level, usize), RecordFault>
-    ensures { result ≡ level_at rank parties file.now at }
-{
-    let (algorithm, at_fan_out) = read_algorithm(file, at)?;
-    let (fan_out, at_limit) = read_fan_out(file, at_fan_out, parties)?;
-    let (handoff_limit, next) = read_handoff_limit(file, at_limit, rank)?;
-    let level = Level {
-        algorithm,
-        fan_out,
-        handoff_limit,
-    };
-    Ok((level, next))
-}
-
-fn read_script_number(file: &[u8], at: usize) -> Result<(u32, usize), RecordFault>
-    ensures { result ≡ script_number_at file.now at }
-{
-    let (number, next) = number_in(RecordKind::Script, file, at)?;
-    if number > LARGEST_SETTING {
-        return Err(RecordFault::ScriptNumber { place: at });
+    // Passes `count` entries.
+    fn entries(&mut self, count: u32, workers: u32) -> Result<(), RecordFault>
+        ensures read { passed_to result self.new.place ≡ entries_end count workers self.old.file.now self.old.place }
+        ensures file { self.new.file ≡ self.old.file }
+    {
+        for _ in 0..count {
+            self.value(Field::Entry { workers })?;
+        }
+        Ok(())
     }
-    Ok((number, next))
-}
 
-pub(crate) fn read_script(file: &[u8], at: usize) -> Result<(Script, usize), RecordFault>
-    ensures { result ≡ script_at file.now at }
-{
-    let (turns, at_rest) = read_script_number(file, at)?;
-    let (rest, at_hold) = read_script_number(file, at_rest)?;
-    let (hold, next) = read_script_number(file, at_hold)?;
-    Ok((Script { turns, rest, hold }, next))
-}
-
-// An entry of the schedule: a worker.
-fn read_entry(file: &[u8], at: usize, workers: u32) -> Result<(u32, usize), RecordFault>
-    ensures { result ≡ entry_at workers file.now at }
-{
-    let (entry, next) = number_in(RecordKind::Schedule, file, at)?;
-    if entry >= workers {
-        return Err(RecordFault::Entry { place: at });
+    // The place of the first entry.
+    pub(crate) fn schedule(&mut self, workers: u32) -> Result<usize, RecordFault>
+        ensures read { read_to result self.new.place ≡ schedule_at workers self.old.file.now self.old.place }
+        ensures file { self.new.file ≡ self.old.file }
+    {
+        let count = self.number(RecordKind::Schedule)?;
+        let first = self.place;
+        self.entries(count, workers)?;
+        Ok(first)
     }
-    Ok((entry, next))
-}
-
-// The place after `count` entries.
-fn pass_entries(file: &[u8], at: usize, count: u32, workers: u32) -> Result<usize, RecordFault>
-    ensures { result ≡ entries_end count workers file.now at }
-{
-    let mut next = at;
-    for _ in 0..count {
-        let (_, after) = read_entry(file, next, workers)?;
-        next = after;
-    }
-    Ok(next)
-}
-
-// The place of the first entry, and the place after the last.
-pub(crate) fn read_schedule(
-    file: &[u8],
-    at: usize,
-    workers: u32,
-) -> Result<(usize, usize), RecordFault>
-    ensures { result ≡ schedule_at workers file.now at }
-{
-    let (count, first) = number_in(RecordKind::Schedule, file, at)?;
-    let end = pass_entries(file, first, count, workers)?;
-    Ok((first, end))
 }

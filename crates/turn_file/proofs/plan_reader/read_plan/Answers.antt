@@ -46,7 +46,7 @@ moved c = c.next_record.ensures.after ∙ ap (moved_on (cursor_of c.loop-record.
 pub loop-record-smaller : goal.loop-record-smaller
 loop-record-smaller c =
     let t = takes c.args.file.now _ _ _ c.loop-record.invariant (made_step c).0 (made_step c).1 in
-    let at : c.next_record.new.self.place ≡ (made_step c).0.next = ap (λ (d : Cursor). d.place) (moved c) in
+    let at : c.next_record.new.self.scan.place ≡ (made_step c).0.next = ap (λ (d : Cursor). d.place) (moved c) in
     omega (arith, t.0, t.1, at)
 
 pub loop-record-preserved : goal.loop-record-preserved

@@ -8,4 +8,4 @@ abbrev pub invariant-loop-record : goal.invariant-loop-record
 invariant-loop-record l = Completes l.file (cursor_of l.reader) (plan_numbers l.read) (plan_of l.file)
 
 abbrev pub decreases-loop-record : goal.decreases-loop-record
-decreases-loop-record l = length l.file - l.reader.place
+decreases-loop-record l = length l.file - l.reader.scan.place

@@ -1,0 +1,8 @@
+use Rattle.std.proofs.Common.{sym}
+use Rattle.turn_file.proofs.Within.{schedule_takes}
+use Rattle.turn_file.proofs.scan.Scan.step_schedule.Goals as goal
+
+pub part_from-requires : goal.part_from-requires
+part_from-requires c =
+    let t = schedule_takes c.args.workers c.args.self.file.now c.args.self.place _ (sym c.in_ok-first.ensures.read) in
+    rw c.schedule.ensures.file (t.1, t.2)

@@ -4,7 +4,7 @@ use Rattle.std.proofs.lemmas.Bool.Decides.{nat_tests, eqb_tells}
 use Rattle.turn_file.specs.declared.fault.FileFault.{FileFault}
 use Rattle.turn_file.specs.declared.fault.FileFault.TheVariants.{TrailingByte}
 use Rattle.turn_file.specs.declared.fault.NumberFault.{NumberFault}
-use Rattle.turn_file.specs.declared.fault.NumberFault.TheVariants.{Ends, Padded, TooLarge}
+use Rattle.turn_file.specs.declared.fault.NumberFault.TheVariants.{Ends, TooLarge}
 use Rattle.turn_file.specs.declared.fault.RecordFault.{RecordFault}
 use Rattle.turn_file.specs.declared.fault.RecordFault.TheVariants as fault
 use Rattle.turn_file.specs.declared.fault.RecordKind.{RecordKind}
@@ -13,7 +13,7 @@ use Rattle.turn_file.specs.declared.step.Stage.{Stage}
 use Rattle.turn_file.specs.declared.step.Stage.TheVariants as stage
 use Rattle.turn_file.specs.Fault.{in_file, in_record, number_place, record_place, fault_place}
 use Rattle.turn_file.specs.declared.number.Group.{Group}
-use Rattle.turn_file.specs.declared.number.Group.TheVariants as group
+use Rattle.turn_file.specs.declared.number.Group.TheVariants.{Last, More}
 use Rattle.turn_file.specs.Number.{group_of, group_before, judged, groups, number_at}
 use Rattle.turn_file.specs.Reading.{Stepped, in_order, next_step}
 use Rattle.turn_file.specs.Reading.{levels_step, level_step, script_step, schedule_step}
@@ -30,19 +30,23 @@ before_err : (b : ℕ) (r : Result (ℕ × ℕ) NumberFault) (e : NumberFault) �
 before_err b (Ok n) e is = absurd (not_both is)
 before_err b (Err f) e is = let same : f ≡ e = cc in ap Err same
 
-judged_place : (at next b : ℕ) (g : Group) (r : Result (ℕ × ℕ) NumberFault) (e : NumberFault) →
-    ((f : NumberFault) → r ≡ Err f → number_place f ≡ at) → judged at next b g r ≡ Err e → number_place e ≡ at
-judged_place at next b group.Padded r e behind is = let same : Padded at ≡ e = cc in ap number_place (sym same)
-judged_place at next b group.TooLarge r e behind is = let same : TooLarge at ≡ e = cc in ap number_place (sym same)
-judged_place at next b group.Last r e behind is = absurd (not_both is)
-judged_place at next b group.More r e behind is = behind e (before_err b r e is)
+group_place : (at b left : ℕ) (e : NumberFault) → Err e ≡ group_of at b left → number_place e ≡ at
+group_place at b left e is = grind (arith, nat_tests)
+
+judged_place : (at left next b : ℕ) (g : Result Group NumberFault) (r : Result (ℕ × ℕ) NumberFault) (e : NumberFault) →
+    g ≡ group_of at b left → ((f : NumberFault) → r ≡ Err f → number_place f ≡ at) → judged next b g r ≡ Err e →
+    number_place e ≡ at
+judged_place at left next b (Ok Last) r e of behind is = absurd (not_both is)
+judged_place at left next b (Ok More) r e of behind is = behind e (before_err b r e is)
+judged_place at left next b (Err f) r e of behind is =
+    let same : f ≡ e = cc in ap number_place (sym same) ∙ group_place at b left f of
 
 groups_place : (at left next : ℕ) (bytes : List ℕ) (e : NumberFault) → groups at left next bytes ≡ Err e →
     number_place e ≡ at
 groups_place at zero next bytes e is = let same : TooLarge at ≡ e = cc in ap number_place (sym same)
 groups_place at (suc left) next [] e is = let same : Ends at ≡ e = cc in ap number_place (sym same)
 groups_place at (suc left) next (b ∷ bytes) e is =
-    judged_place at (next + 1) b (group_of b left) (groups at left (next + 1) bytes) e
+    judged_place at left (next + 1) b (group_of at b left) (groups at left (next + 1) bytes) e refl
     (λ f. groups_place at left (next + 1) bytes f) is
 
 judge_err : {B : Type 0} (k : RecordKind) (r : Result (ℕ × ℕ) NumberFault) (value : ℕ × ℕ → Result B RecordFault)

@@ -5,7 +5,7 @@ use Rattle.std.proofs.lemmas.Bool.{cases_lt}
 use Rattle.std.proofs.lemmas.Bool.Decides.{nat_tests}
 use Rattle.turn_file.specs.declared.fault.NumberFault.{NumberFault}
 use Rattle.turn_file.specs.declared.number.Group.{Group}
-use Rattle.turn_file.specs.declared.number.Group.TheVariants as group
+use Rattle.turn_file.specs.declared.number.Group.TheVariants.{Last, More}
 use Rattle.turn_file.specs.Number.{group_of, group_before, judged, groups, number_at}
 use Rattle.turn_file.specs.Spelling.{spell_in, spell, Bytes, Stands, Spelled, OneSpelling}
 use Rattle.turn_file.proofs.Apart.{not_both}
@@ -51,14 +51,13 @@ spell_before left b v more byte some =
     ∙ ap (λ x. b ∷ spell_in left x) high
 
 -- the two ways to accept a byte: it is the last, or others follow
-judged_ok : (at left next b : ℕ) (g : Group) (r : Read) (n : ℕ × ℕ) → g ≡ group_of b left →
-    judged at next b g r ≡ Ok n →
+judged_ok : (at left next b : ℕ) (g : Result Group NumberFault) (r : Read) (n : ℕ × ℕ) → g ≡ group_of at b left →
+    judged next b g r ≡ Ok n →
     ((b < 128) × (b ≡ 0 → 4 ≤ left) × (left ≡ 0 → b < 16) × (n ≡ (b, next)))
     ⊎ ((128 ≤ b) × (0 < left) × (group_before b r ≡ Ok n))
-judged_ok at left next b group.Padded r n is ok = absurd (not_both (sym ok))
-judged_ok at left next b group.TooLarge r n is ok = absurd (not_both (sym ok))
-judged_ok at left next b group.Last r n is ok = let h = last_holds b left is in inl (h.0, h.1, h.2, cc)
-judged_ok at left next b group.More r n is ok = let h = more_holds b left is in inr (h.0, h.1, ok)
+judged_ok at left next b (Ok Last) r n is ok = let h = last_holds at b left is in inl (h.0, h.1, h.2, cc)
+judged_ok at left next b (Ok More) r n is ok = let h = more_holds at b left is in inr (h.0, h.1, ok)
+judged_ok at left next b (Err e) r n is ok = absurd (not_both (sym ok))
 
 -- the bytes begin with the spelling of what was read of them in at most `left` groups
 record ReadAs (left next : ℕ) (bytes : List ℕ) (n : ℕ × ℕ) : Type 0 where
@@ -109,7 +108,7 @@ groups_read : (at left next : ℕ) (bytes : List ℕ) (n : ℕ × ℕ) → left 
 groups_read at zero next bytes n most each ok = absurd (not_both (sym ok))
 groups_read at (suc left) next [] n most each ok = absurd (not_both (sym ok))
 groups_read at (suc left) next (b ∷ bytes) n most each ok =
-    elim (judged_ok at left (next + 1) b (group_of b left) (groups at left (next + 1) bytes) n refl ok) [
+    elim (judged_ok at left (next + 1) b (group_of at b left) (groups at left (next + 1) bytes) n refl ok) [
       | inl h ↦ rw h.3 (read_last left next b bytes h.0 h.1 h.2)
       | inr h ↦
           let p = before_ok b (groups at left (next + 1) bytes) n h.2 in
@@ -120,10 +119,10 @@ groups_read at (suc left) next (b ∷ bytes) n most each ok =
 
 -- a spelling in at most `left` groups is read: its last group, and one that others follow
 spelled_last : (at left next v : ℕ) (r : Read) → v < 128 → v < limit (suc left) → (suc left < 5 → 0 < v) →
-    judged at next v (group_of v left) r ≡ Ok (v, next)
+    judged next v (group_of at v left) r ≡ Ok (v, next)
 spelled_last at left next v r last below some =
-    ap (λ g. judged at next v g r)
-    (is_last v left last (shortest left some) (λ fifth. fifth_holds left below fifth))
+    ap (λ g. judged next v g r)
+    (is_last at v left last (shortest left some) (λ fifth. fifth_holds left below fifth))
   where
     shortest : (left : ℕ) → (suc left < 5 → 0 < v) → v ≡ 0 → 4 ≤ left
     shortest left some zero_value =
@@ -134,10 +133,10 @@ spelled_last at left next v r last below some =
     fifth_holds (suc left) below fifth = absurd (omega arith)
 
 spelled_more : (at left next v to : ℕ) (r : Read) → 0 < left → r ≡ Ok (v / 128, to) →
-    judged at next (128 + v % 128) (group_of (128 + v % 128) left) r ≡ Ok (v, to)
+    judged next (128 + v % 128) (group_of at (128 + v % 128) left) r ≡ Ok (v, to)
 spelled_more at left next v to r behind is =
     let whole : 128 + v % 128 - 128 + 128 * (v / 128) ≡ v = omega arith in
-    ap (λ g. judged at next (128 + v % 128) g r) (is_more (128 + v % 128) left (omega arith) behind)
+    ap (λ g. judged next (128 + v % 128) g r) (is_more at (128 + v % 128) left (omega arith) behind)
     ∙ ap (group_before (128 + v % 128)) is
     ∙ ap (λ x. Ok (x, to)) whole
 
@@ -167,7 +166,7 @@ groups_within : (at left next : ℕ) (bytes : List ℕ) (n : ℕ × ℕ) → gro
 groups_within at zero next bytes n ok = absurd (not_both (sym ok))
 groups_within at (suc left) next [] n ok = absurd (not_both (sym ok))
 groups_within at (suc left) next (b ∷ bytes) n ok =
-    elim (judged_ok at left (next + 1) b (group_of b left) (groups at left (next + 1) bytes) n refl ok) [
+    elim (judged_ok at left (next + 1) b (group_of at b left) (groups at left (next + 1) bytes) n refl ok) [
       | inl h ↦ (omega (arith, ap (λ m. m.1) h.3), omega (arith, ap (λ m. m.1) h.3))
       | inr h ↦
           let p = before_ok b (groups at left (next + 1) bytes) n h.2 in

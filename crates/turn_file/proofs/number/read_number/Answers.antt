@@ -1,50 +1,31 @@
-use Rattle.std.proofs.Common.{◌+◌, ◌-◌, ◌*◌, get_or, drop, Ok, sym, ap, ◌∙◌, arith, rules}
-use Rattle.turn_file.specs.Number.{groups}
-use Rattle.turn_file.proofs.Groups.{behind, behind_more, by_turn, by_end}
+use Rattle.std.proofs.Common.{Err, sym, ap, ◌∙◌}
+use Rattle.std.proofs.lemmas.Result.{err_from_is_err_and}
+use Rattle.turn_file.proofs.Groups.{at_first, by_turn, by_end, so_far_more}
 use Rattle.turn_file.proofs.Spelled.{read_spelled}
 use Rattle.turn_file.proofs.number.read_number.Goals as goal
 
-pub returns-then-next-file : goal.returns-then-next-file
-returns-then-next-file c =
-    let l = c.loop-left in
-    let is = sym (by_end c.args.file.now c.args.at l.left l.next l.value l.weight
-    l.invariant.0 c.loop-left-test.true c.if-next-file.true) in
-    record { reads = is; spelled = read_spelled c.args.file.now c.args.at _ (λ i. (c.type_inv.file i).fits) is }
+pub loop-index-init : goal.loop-index-init
+loop-index-init c = rw c.bytes_from-byte-items.ensures (at_first c.args.at _)
 
-pub returns-in-Padded : goal.returns-in-Padded
-returns-in-Padded c =
-    let l = c.loop-left in
-    let is = sym (by_turn c.args.file.now c.args.at l.left l.next l.value l.weight
-    _ l.invariant.0 c.loop-left-test.true c.if-next-file.false c.in-Padded.ensures) in
-    record { reads = is; spelled = read_spelled c.args.file.now c.args.at _ (λ i. (c.type_inv.file i).fits) is }
+pub returns-in_err-judge-clause-spelled : goal.returns-in_err-judge-clause-spelled
+returns-in_err-judge-clause-spelled c =
+    let p = err_from_is_err_and c.from_residual.result c.from_residual.ensures.1 in
+    let turn = by_turn c.loop-index.invariant _ c.loop-index-test.true c.in_err-judge.ensures in
+    read_spelled c.args.file.now c.args.at _ (λ i. (c.type_inv.file i).fits) (p.1 ∙ ap Err p.2 ∙ sym turn)
 
-pub returns-in-TooLarge : goal.returns-in-TooLarge
-returns-in-TooLarge c =
-    let l = c.loop-left in
-    let is = sym (by_turn c.args.file.now c.args.at l.left l.next l.value l.weight
-    _ l.invariant.0 c.loop-left-test.true c.if-next-file.false c.in-TooLarge.ensures) in
-    record { reads = is; spelled = read_spelled c.args.file.now c.args.at _ (λ i. (c.type_inv.file i).fits) is }
+pub returns-in-Last-clause-spelled : goal.returns-in-Last-clause-spelled
+returns-in-Last-clause-spelled c =
+    let is = rw c.in-Last.is at c.in_ok-judge.ensures in
+    let turn = by_turn c.loop-index.invariant _ c.loop-index-test.true is in
+    rw c.from.ensures (read_spelled c.args.file.now c.args.at _ (λ i. (c.type_inv.file i).fits) (sym turn))
 
-pub returns-in-Last : goal.returns-in-Last
-returns-in-Last c =
-    let l = c.loop-left in
-    let is = ap (λ b. Ok (l.value + b * l.weight, l.next + 1)) c.from.ensures
-    ∙ sym (by_turn c.args.file.now c.args.at l.left l.next l.value l.weight
-    _ l.invariant.0 c.loop-left-test.true c.if-next-file.false c.in-Last.ensures) in
-    record { reads = is; spelled = read_spelled c.args.file.now c.args.at _ (λ i. (c.type_inv.file i).fits) is }
+pub loop-index-preserved : goal.loop-index-preserved
+loop-index-preserved c =
+    let byte = (c.type_inv.byte-items c.loop-index.index).fits in
+    let is = rw c.in-More.is at c.in_ok-judge.ensures in
+    rw c.from-in-More.ensures (so_far_more c.loop-index.invariant byte c.loop-index-test.true is)
 
-pub loop-left-preserved : goal.loop-left-preserved
-loop-left-preserved c =
-    let l = c.loop-left in
-    let rest = groups c.args.at (l.left - 1) (l.next + 1) (drop (l.next + 1) c.args.file.now) in (
-      by_turn c.args.file.now c.args.at l.left l.next l.value l.weight
-          _ l.invariant.0 c.loop-left-test.true c.if-next-file.false c.in-More.ensures
-          ∙ behind_more l.value l.weight (get_or c.args.file.now l.next 0) rest
-          ∙ ap (λ x. behind (l.value + x * l.weight) (l.weight * 128) rest) (sym c.from-in-More.ensures),
-      search rules,
-      search rules,
-    )
-
--- nothing may come behind a fifth group, so the loop returns before it runs out
-pub returns : goal.returns
-returns c = absurd (omega arith)
+pub returns-clause-spelled : goal.returns-clause-spelled
+returns-clause-spelled c =
+    read_spelled c.args.file.now c.args.at _ (λ i. (c.type_inv.file i).fits)
+    (sym (by_end c.loop-index.invariant c.loop-index-test.false))

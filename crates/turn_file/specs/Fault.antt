@@ -1,5 +1,5 @@
 -- The numbers of a fault: its cause, its place, the kind of record, and the layer that it lies in.
-use Rattle.std.specs.Prelude.{ℕ, List, ◌++◌, codes, decimal}
+use Rattle.std.specs.Prelude.{ℕ, List, ◌++◌, codes, decimal, Option, Some, None}
 use Rattle.turn_file.specs.declared.fault.RecordKind.{RecordKind}
 use Rattle.turn_file.specs.declared.fault.RecordKind.TheVariants.{Levels, Level, Script, Schedule}
 use Rattle.turn_file.specs.declared.fault.Layer.{Layer}
@@ -26,6 +26,10 @@ kind_number Levels = 1
 kind_number Level = 2
 kind_number Script = 3
 kind_number Schedule = 4
+
+abbrev pub kind_or_0 : Option RecordKind → ℕ
+kind_or_0 (Some kind) = kind_number kind
+kind_or_0 None = 0
 
 -- a file is at most this long
 abbrev pub longest_file : ℕ
@@ -81,12 +85,16 @@ record_kind (HandoffLimit place) = Level
 record_kind (ScriptNumber place) = Script
 record_kind (Entry place) = Schedule
 
+-- if it lies in one
+abbrev pub fault_record_kind : FileFault → Option RecordKind
+fault_record_kind (Record fault) = Some (record_kind fault)
+fault_record_kind (TrailingByte place) = None
+fault_record_kind TooLong = None
+fault_record_kind OutputTooShort = None
+
 -- 0 where a fault lies in no record
 abbrev pub fault_kind : FileFault → ℕ
-fault_kind (Record fault) = kind_number (record_kind fault)
-fault_kind (TrailingByte place) = 0
-fault_kind TooLong = 0
-fault_kind OutputTooShort = 0
+fault_kind f = kind_or_0 (fault_record_kind f)
 
 abbrev pub layer_number : Layer → ℕ
 layer_number layer.Number = 1

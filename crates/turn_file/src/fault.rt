@@ -4,7 +4,7 @@ ghost use Rattle.std.specs.Prelude.{◌≡◌, Some};
 ghost use Rattle.turn_file.specs.Fault.{in_record, in_file, fault_numbers, fault_line};
 ghost use Rattle.turn_file.specs.Fault.{number_cause, record_cause, cause_number};
 ghost use Rattle.turn_file.specs.Fault.{number_place, record_place, fault_place};
-ghost use Rattle.turn_file.specs.Fault.{kind_number, record_kind, fault_kind};
+ghost use Rattle.turn_file.specs.Fault.{kind_number, record_kind, fault_record_kind};
 ghost use Rattle.turn_file.specs.Fault.{layer_number, record_layer, fault_layer};
 
 use crate::limits::LONGEST_FILE;
@@ -242,13 +242,13 @@ impl FileFault {
         }
     }
 
-    // 0 where the fault lies in no record.
-    fn kind(self) -> u8
-        ensures { result ≡ fault_kind self }
+    // The kind of the record that the fault lies in, if it lies in one.
+    fn kind(self) -> Option<RecordKind>
+        ensures { result ≡ fault_record_kind self }
     {
         match self {
-            FileFault::Record { fault } => u8::from(fault.kind()),
-            _ => 0,
+            FileFault::Record { fault } => Some(fault.kind()),
+            _ => None,
         }
     }
 
@@ -268,7 +268,7 @@ impl FileFault {
         FaultNumbers {
             cause: self.cause(),
             place: self.place(),
-            kind: self.kind(),
+            kind: self.kind().map_or(0, u8::from),
             layer: u8::from(self.layer()),
         }
     }

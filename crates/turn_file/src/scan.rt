@@ -1,9 +1,8 @@
 // Reads the records of a file, each a row of numbers. A number is judged as a number, then by its value,
 // before the next is read.
-ghost use Rattle.std.specs.Prelude.{◌≡◌};
 ghost use Rattle.turn_file.specs.Record.{number_in, value_at, algorithm_at, limit_at, level_at};
 ghost use Rattle.turn_file.specs.Record.{script_at, entries_end, schedule_at};
-ghost use Rattle.turn_file.specs.Scanning.{read_to, passed_to};
+ghost use Rattle.turn_file.specs.Scanning.{Reads, Passes};
 
 use crate::fault::{NumberFault, RecordFault, RecordKind};
 use crate::field::Field;
@@ -20,8 +19,7 @@ pub(crate) struct Scan<'a> {
 impl Scan<'_> {
     // A number of a record of this kind.
     fn number(&mut self, kind: RecordKind) -> Result<u32, (RecordKind, NumberFault)>
-        ensures read { read_to result self.new.place ≡ number_in kind self.old.file.now self.old.place }
-        ensures file { self.new.file ≡ self.old.file }
+        ensures { Reads (number_in kind) self.old result self.new }
     {
         let (value, next) = read_number(self.file, self.place).map_err(|fault| (kind, fault))?;
         self.place = next;
@@ -30,8 +28,7 @@ impl Scan<'_> {
 
     // A number that only some values fit.
     pub(crate) fn value(&mut self, field: Field) -> Result<u32, RecordFault>
-        ensures read { read_to result self.new.place ≡ value_at field self.old.file.now self.old.place }
-        ensures file { self.new.file ≡ self.old.file }
+        ensures { Reads (value_at field) self.old result self.new }
     {
         let place = self.place;
         let value = self.number(field.kind())?;
@@ -40,8 +37,7 @@ impl Scan<'_> {
     }
 
     fn algorithm(&mut self) -> Result<Algorithm, RecordFault>
-        ensures read { read_to result self.new.place ≡ algorithm_at self.old.file.now self.old.place }
-        ensures file { self.new.file ≡ self.old.file }
+        ensures { Reads algorithm_at self.old result self.new }
     {
         let place = self.place;
         let number = self.number(RecordKind::Level)?;
@@ -50,8 +46,7 @@ impl Scan<'_> {
 
     // The handoff limit of a level with `rank` levels above it: the top level has none.
     fn handoff_limit(&mut self, rank: u32) -> Result<u32, RecordFault>
-        ensures read { read_to result self.new.place ≡ limit_at rank self.old.file.now self.old.place }
-        ensures file { self.new.file ≡ self.old.file }
+        ensures { Reads (limit_at rank) self.old result self.new }
     {
         if rank == 0 {
             Ok(0)
@@ -62,8 +57,7 @@ impl Scan<'_> {
 
     // A level with `rank` levels above it, which have `parties` parties.
     pub(crate) fn level(&mut self, rank: u32, parties: u32) -> Result<Level, RecordFault>
-        ensures read { read_to result self.new.place ≡ level_at rank parties self.old.file.now self.old.place }
-        ensures file { self.new.file ≡ self.old.file }
+        ensures { Reads (level_at rank parties) self.old result self.new }
     {
         Ok(Level {
             algorithm: self.algorithm()?,
@@ -73,8 +67,7 @@ impl Scan<'_> {
     }
 
     pub(crate) fn script(&mut self) -> Result<Script, RecordFault>
-        ensures read { read_to result self.new.place ≡ script_at self.old.file.now self.old.place }
-        ensures file { self.new.file ≡ self.old.file }
+        ensures { Reads script_at self.old result self.new }
     {
         Ok(Script {
             turns: self.value(Field::ScriptNumber)?,
@@ -85,8 +78,7 @@ impl Scan<'_> {
 
     // Passes `count` entries.
     fn entries(&mut self, count: u32, workers: u32) -> Result<(), RecordFault>
-        ensures read { passed_to result self.new.place ≡ entries_end count workers self.old.file.now self.old.place }
-        ensures file { self.new.file ≡ self.old.file }
+        ensures { Passes (entries_end count workers) self.old result self.new }
     {
         for _ in 0..count {
             self.value(Field::Entry { workers })?;
@@ -96,8 +88,7 @@ impl Scan<'_> {
 
     // The place of the first entry.
     pub(crate) fn schedule(&mut self, workers: u32) -> Result<usize, RecordFault>
-        ensures read { read_to result self.new.place ≡ schedule_at workers self.old.file.now self.old.place }
-        ensures file { self.new.file ≡ self.old.file }
+        ensures { Reads (schedule_at workers) self.old result self.new }
     {
         let count = self.number(RecordKind::Schedule)?;
         let first = self.place;

@@ -4,5 +4,5 @@ use Rattle.turn_file.proofs.scan.Scan.step_schedule.Goals as goal
 
 pub part_from-requires : goal.part_from-requires
 part_from-requires c =
-    let t = schedule_takes c.args.workers c.args.self.file.now c.args.self.place _ (sym c.in_ok-first.ensures.read) in
-    rw c.schedule.ensures.file (t.1, t.2)
+    let t = schedule_takes c.args.workers c.args.self.file.now c.args.self.place _ (sym c.in_ok-first.ensures.0) in
+    rw c.schedule.ensures.1 (t.1, t.2)

@@ -13,22 +13,21 @@ use Rattle.turn_file.specs.Algorithm.{algorithm_number}
 use Rattle.turn_file.specs.Record.{bind, judge, with_kind, field_at}
 use Rattle.turn_file.specs.Field.{bad_fan_out}
 use Rattle.turn_file.specs.Record.{algorithm_of, algorithm_at}
-use Rattle.turn_file.proofs.Apart.{not_both}
 
 -- what was read first, and what came of it
 pub bind_ok : {A B : Type 0} (r : Result A RecordFault) (next : A → Result B RecordFault) (b : B) →
     bind r next ≡ Ok b → (a : A) × (r ≡ Ok a) × (next a ≡ Ok b)
 bind_ok (Ok a) next b e = (a, refl, e)
-bind_ok (Err f) next b e = absurd (not_both (sym e))
+bind_ok (Err f) next b e = cc
 
 pub judge_ok : {B : Type 0} (k : RecordKind) (r : Result (ℕ × ℕ) NumberFault) (value : ℕ × ℕ → Result B RecordFault)
     (b : B) → judge (with_kind k r) value ≡ Ok b → (n : ℕ × ℕ) × (r ≡ Ok n) × (value n ≡ Ok b)
 judge_ok k (Ok n) value b e = (n, refl, e)
-judge_ok k (Err f) value b e = absurd (not_both (sym e))
+judge_ok k (Err f) value b e = cc
 
 not_refused : {A : Type 0} (bad : Bool) (f : RecordFault) (a b : A) → cond bad (Err f) (Ok a) ≡ Ok b → (bad ≡ false)
     × (a ≡ b)
-not_refused true f a b e = absurd (not_both (sym e))
+not_refused true f a b e = cc
 not_refused false f a b e = (refl, cc)
 
 module _ (k : RecordKind) (bad : ℕ → Bool) (f : RecordFault) (file : List ℕ) (at : ℕ) (n : ℕ × ℕ) where

@@ -14,7 +14,6 @@ use Rattle.turn_file.specs.Plan.{PlanNumbers, with_item, blank_plan, plan_from, 
 use Rattle.turn_file.specs.Reading.{Item, Stepped, Cursor, in_order, levels_step, level_step, script_step}
 use Rattle.turn_file.specs.Reading.{schedule_step, next_step, next_from, moved_on}
 use Rattle.turn_file.specs.Spelling.{Bytes, Stands}
-use Rattle.turn_file.proofs.Apart.{not_both, some_none}
 use Rattle.turn_file.proofs.Complete.{next_complete}
 use Rattle.turn_file.proofs.Plans.{plan_ends, plan_refused, plan_goes_on}
 use Rattle.turn_file.proofs.Refused.{next_lies}
@@ -63,7 +62,7 @@ one_step : (x : Result (Option Stepped) FileFault) (s t : Stepped) → x ≡ Ok 
 one_step x s t e f = cc
 
 no_fault : (x : Result (Option Stepped) FileFault) (s : Stepped) (f : FileFault) → x ≡ Ok (Some s) → x ≡ Err f → ⊥
-no_fault x s f e g = not_both (sym e ∙ g)
+no_fault x s f e g = cc
 
 -- records that are handed out from one place on are some of those that are handed out before a fault
 before_fault : (file : List ℕ) (at : ℕ) (from : Stage) (items : List Item) (to : ℕ) (after : Stage) (f : FileFault) →
@@ -112,18 +111,18 @@ step_is (Ok None) = inr (inl refl)
 step_is (Err f) = inr (inr (f, refl))
 
 in_order_some : (r : Result Stepped RecordFault) → in_order r ≡ Ok None → ⊥
-in_order_some (Ok s) e = some_none e
-in_order_some (Err f) e = not_both (sym e)
+in_order_some (Ok s) e = cc
+in_order_some (Err f) e = cc
 
 ended : (later : Bool) (f : FileFault) →
     ◌≡◌ {A = Result (Option Stepped) FileFault} (cond later (Err f) (Ok None)) (Ok None) → later ≡ false
-ended true f e = absurd (not_both (sym e))
+ended true f e = cc
 ended false f e = refl
 
 no_end_fault : (later : Bool) (f g : FileFault) → later ≡ false →
     ◌≡◌ {A = Result (Option Stepped) FileFault} (cond later (Err f) (Ok None)) (Err g) → ⊥
 no_end_fault true f g e h = true≢false e
-no_end_fault false f g e h = not_both h
+no_end_fault false f g e h = cc
 
 -- there is no record only at the end of the file
 none_left : (file : List ℕ) (at : ℕ) (from : Stage) → next_step file at from ≡ Ok None → (from ≡ stage.End)
@@ -152,7 +151,7 @@ plan_ran (suc most) c p q within enough e =
           let n = none_left c.file c.place c.stage k in
           let same : p ≡ q = let s = sym (plan_ends c p (suc most) (omega arith) k) ∙ e in cc in
           ([], (let l = n.1 in omega arith, n.0), sym same)
-      | inr (inr k) ↦ absurd (not_both (sym e ∙ plan_refused c p (suc most) k.0 (omega arith) k.1))
+      | inr (inr k) ↦ cc (plan_refused c p (suc most) k.0 (omega arith) k.1)
     ]
 
 -- a plan that was refused: the records before the fault were handed out
@@ -169,7 +168,7 @@ plan_stopped (suc most) c p f within enough e =
           let m = plan_stopped most (moved_on c (Ok (Some k.0))) (with_item p k.0.handed.item) f t.1
           (omega arith) (sym (plan_goes_on c p most k.0 k.1) ∙ e) in
           (k.0.handed.item ∷ m.0, m.1, m.2, (k.0, k.1, refl, m.3), m.4, m.5)
-      | inr (inl k) ↦ absurd (not_both (sym (plan_ends c p (suc most) (omega arith) k) ∙ e))
+      | inr (inl k) ↦ cc (plan_ends c p (suc most) (omega arith) k)
       | inr (inr k) ↦
           let same : k.0 ≡ f = let s = sym (plan_refused c p (suc most) k.0 (omega arith) k.1) ∙ e in cc in
           ([], c.place, c.stage, (refl, refl), k.1 ∙ ap Err same, within)
@@ -262,10 +261,10 @@ module _ (file : List ℕ) (each : Bytes file) where
 -- what the reader of whole files answers
 judged_whole : (x : Result PlanNumbers FileFault) → judgement x ≡ Ok tt → (p : PlanNumbers) × (x ≡ Ok p)
 judged_whole (Ok p) e = (p, refl)
-judged_whole (Err f) e = absurd (not_both (sym e))
+judged_whole (Err f) e = cc
 
 judged_fault : (x : Result PlanNumbers FileFault) (f : FileFault) → judgement x ≡ Err f → x ≡ Err f
-judged_fault (Ok p) f e = absurd (not_both e)
+judged_fault (Ok p) f e = cc
 judged_fault (Err g) f e = let q : g ≡ f = cc in ap Err q
 
 read_whole : (file : List ℕ) (was : Plan) (p : PlanNumbers) (r : Result (Unit {0}) FileFault) → Bytes file →
@@ -275,7 +274,7 @@ read_whole file was p r each answer plan = record {
       let k = judged_whole (plan_of file) (sym answer ∙ ok) in
       let said = plan ∙ ap (filled was) k.1 in
       elim (cases_lt longest_file (length file)) [
-        | inl long ↦ absurd (not_both (sym k.1 ∙ too_long file long))
+        | inl long ↦ cc (too_long file long)
         | inr short ↦ (short, subst (Whole file) (sym said) (read_accepted file each k.0 short k.1))
       ];
   refused = λ fault err.

@@ -5,24 +5,23 @@ use Rattle.turn_file.specs.declared.fault.FileFault.TheVariants.{TooLong}
 use Rattle.turn_file.specs.Fault.{longest_file}
 use Rattle.turn_file.specs.Plan.{PlanNumbers, with_item, on_next, on_open, plan_from, plan_of, blank_plan}
 use Rattle.turn_file.specs.Reading.{Handed, Stepped, Cursor, open_file, next_from, handed_out, moved_on}
-use Rattle.turn_file.proofs.Apart.{not_both, some_none}
 use Rattle.turn_file.proofs.Steps.{next_takes}
 
 -- what was answered tells what the step was
 pub handed_some : (x : Result (Option Stepped) FileFault) (h : Handed) → Ok (Some h) ≡ handed_out x → (s : Stepped)
     × (x ≡ Ok (Some s)) × (s.handed ≡ h)
 handed_some (Ok (Some s)) h e = (s, refl, cc)
-handed_some (Ok None) h e = absurd (some_none e)
-handed_some (Err f) h e = absurd (not_both e)
+handed_some (Ok None) h e = cc
+handed_some (Err f) h e = cc
 
 pub handed_none : (x : Result (Option Stepped) FileFault) → Ok None ≡ handed_out x → x ≡ Ok None
-handed_none (Ok (Some s)) e = absurd (some_none (sym e))
+handed_none (Ok (Some s)) e = cc
 handed_none (Ok None) e = refl
-handed_none (Err f) e = absurd (not_both e)
+handed_none (Err f) e = cc
 
 pub handed_fault : (x : Result (Option Stepped) FileFault) (f : FileFault) → Err f ≡ handed_out x → x ≡ Err f
-handed_fault (Ok (Some s)) f e = absurd (not_both (sym e))
-handed_fault (Ok None) f e = absurd (not_both (sym e))
+handed_fault (Ok (Some s)) f e = cc
+handed_fault (Ok None) f e = cc
 handed_fault (Err g) f e = let q : g ≡ f = cc in ap Err q
 
 module _ (c : Cursor) (p : PlanNumbers) where
@@ -78,7 +77,7 @@ module _ (file : List ℕ) (c : Cursor) (p : PlanNumbers) (whole : Result PlanNu
 -- at the beginning
 opened_at : (too_long : Bool) (f : FileFault) (a c : Cursor) →
     ◌≡◌ {A = Result Cursor FileFault} (Ok c) (cond too_long (Err f) (Ok a)) → a ≡ c
-opened_at true f a c e = absurd (not_both e)
+opened_at true f a c e = cc
 opened_at false f a c e = cc
 
 pub not_opened : (file : List ℕ) (f : FileFault) → Err f ≡ open_file file → plan_of file ≡ Err f

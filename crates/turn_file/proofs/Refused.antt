@@ -20,14 +20,13 @@ use Rattle.turn_file.specs.Reading.{levels_step, level_step, script_step, schedu
 use Rattle.turn_file.specs.Record.{bind, judge, with_kind, field_at, levels_at, algorithm_of, algorithm_at, fan_out_at}
 use Rattle.turn_file.specs.Field.{bad_levels, bad_fan_out, bad_limit, bad_script_number, bad_entry}
 use Rattle.turn_file.specs.Record.{limit_at, level_at, script_number_at, script_at, entry_at, entries_end, schedule_at}
-use Rattle.turn_file.proofs.Apart.{not_both}
 use Rattle.turn_file.proofs.Accepted.{fan_out_ok, script_number_ok, entry_ok}
 use Rattle.turn_file.proofs.Fields.{algorithm_ok}
 use Rattle.turn_file.proofs.Spelled.{number_within}
 
 -- a faulty number: the place is that of its first byte
 before_err : (b : ℕ) (r : Result (ℕ × ℕ) NumberFault) (e : NumberFault) → group_before b r ≡ Err e → r ≡ Err e
-before_err b (Ok n) e is = absurd (not_both is)
+before_err b (Ok n) e is = cc
 before_err b (Err f) e is = let same : f ≡ e = cc in ap Err same
 
 group_place : (at b left : ℕ) (e : NumberFault) → Err e ≡ group_of at b left → number_place e ≡ at
@@ -36,7 +35,7 @@ group_place at b left e is = grind (arith, nat_tests)
 judged_place : (at left next b : ℕ) (g : Result Group NumberFault) (r : Result (ℕ × ℕ) NumberFault) (e : NumberFault) →
     g ≡ group_of at b left → ((f : NumberFault) → r ≡ Err f → number_place f ≡ at) → judged next b g r ≡ Err e →
     number_place e ≡ at
-judged_place at left next b (Ok Last) r e of behind is = absurd (not_both is)
+judged_place at left next b (Ok Last) r e of behind is = cc
 judged_place at left next b (Ok More) r e of behind is = behind e (before_err b r e is)
 judged_place at left next b (Err f) r e of behind is =
     let same : f ≡ e = cc in ap number_place (sym same) ∙ group_place at b left f of
@@ -62,7 +61,7 @@ bind_err (Err g) next f is = let same : g ≡ f = cc in inl (ap Err same)
 
 refused_by : {A : Type 0} (bad : Bool) (a : A) (f g : RecordFault) → cond bad (Err f) (Ok a) ≡ Err g → f ≡ g
 refused_by true a f g is = cc
-refused_by false a f g is = absurd (not_both is)
+refused_by false a f g is = cc
 
 -- a refused field: the place is that of its number
 field_place : (k : RecordKind) (bad : ℕ → Bool) (f : RecordFault) (file : List ℕ) (at : ℕ) (g : RecordFault) →
@@ -83,7 +82,7 @@ algorithm_place file at g is =
       | inr p ↦
           elim (bind_err (algorithm_of p.0.0 (fault.Algorithm at)) _ g p.2) [
             | inl q ↦ sym (ap record_place (no_algorithm p.0.0 (fault.Algorithm at) g q))
-            | inr q ↦ absurd (not_both q.2)
+            | inr q ↦ cc
           ]
     ]
 
@@ -91,7 +90,7 @@ limit_place : (rank : ℕ) (file : List ℕ) (at : ℕ) (g : RecordFault) → li
     record_place g ≡ at
 limit_place rank file at g is =
     elim (eqb_tells rank 0) [
-      | inl t ↦ absurd (not_both (simp t.0 at is))
+      | inl t ↦ let wrong = simp t.0 at is in cc
       | inr t ↦ field_place kind.Level bad_limit (fault.HandoffLimit at) file at g refl (simp t.0 at is)
     ]
 
@@ -114,7 +113,7 @@ level_lies rank parties file at g before is =
                 let v = number_within file a.0.1 f.0 (fan_out_ok parties file a.0.1 f.0 f.1).0 in
                 elim (bind_err (limit_at rank file f.0.1) _ g f.2) [
                   | inl p ↦ let e = limit_place rank file f.0.1 g p in (omega arith, omega arith)
-                  | inr h ↦ absurd (not_both h.2)
+                  | inr h ↦ cc
                 ]
           ]
     ]
@@ -136,14 +135,14 @@ module _ (file : List ℕ) where
                   let v = number_within file t.0.1 r.0 (script_number_ok file t.0.1 r.0 r.1).0 in
                   elim (bind_err (script_number_at file r.0.1) _ g r.2) [
                     | inl p ↦ let e = script_number_place r.0.1 g p in (omega arith, omega arith)
-                    | inr h ↦ absurd (not_both h.2)
+                    | inr h ↦ cc
                   ]
             ]
       ]
 
   entries_lie : (count workers at : ℕ) (g : RecordFault) → at ≤ length file →
       entries_end count workers file at ≡ Err g → Lies file at (record_place g)
-  entries_lie zero workers at g before is = absurd (not_both is)
+  entries_lie zero workers at g before is = cc
   entries_lie (suc count) workers at g before is =
       elim (bind_err (entry_at workers file at) _ g is) [
         | inl p ↦
@@ -166,14 +165,14 @@ module _ (file : List ℕ) where
             let w = number_within file at n.0 n.1 in
             elim (bind_err (entries_end n.0.0 workers file n.0.1) _ g n.2) [
               | inl p ↦ let m = entries_lie n.0.0 workers n.0.1 g w.1 p in (omega arith, m.1)
-              | inr h ↦ absurd (not_both h.2)
+              | inr h ↦ cc
             ]
       ]
 
 -- a step that fails fails in its record
 in_order_err : (r : Result Stepped RecordFault) (f : FileFault) → in_order r ≡ Err f →
     (g : RecordFault) × (r ≡ Err g) × (fault_place f ≡ record_place g)
-in_order_err (Ok s) f is = absurd (not_both is)
+in_order_err (Ok s) f is = cc
 in_order_err (Err g) f is = let same : in_file g ≡ f = cc in (g, refl, sym (ap fault_place same))
 
 record_err : {A : Type 0} (r : Result A RecordFault) (made : A → Result Stepped RecordFault) (g : RecordFault) →
@@ -184,26 +183,26 @@ trailing : (later : Bool) (at : ℕ) (f : FileFault) →
     ◌≡◌ {A = Result (Option Stepped) FileFault} (cond later (Err (TrailingByte at)) (Ok None)) (Err f) →
     fault_place f ≡ at
 trailing true at f is = let same : TrailingByte at ≡ f = cc in ap fault_place (sym same)
-trailing false at f is = absurd (not_both is)
+trailing false at f is = cc
 
 pub next_lies : (file : List ℕ) (at : ℕ) (from : Stage) (f : FileFault) → at ≤ length file →
     next_step file at from ≡ Err f → Lies file at (fault_place f)
 next_lies file at stage.Levels f before is =
     let k = in_order_err (levels_step file at) f is in
-    let p = record_err (levels_at file at) _ k.0 (λ a is. not_both is) k.1 in
+    let p = record_err (levels_at file at) _ k.0 (λ a is. cc) k.1 in
     let e = k.2 ∙ field_place kind.Levels bad_levels (fault.LevelCount at) file at k.0 refl p in
     (omega arith, omega arith)
 next_lies file at (stage.Level rank count parties) f before is =
     let k = in_order_err (level_step rank count parties file at) f is in
-    let p = record_err (level_at rank parties file at) _ k.0 (λ a is. not_both is) k.1 in
+    let p = record_err (level_at rank parties file at) _ k.0 (λ a is. cc) k.1 in
     subst (Lies file at) (sym k.2) (level_lies rank parties file at k.0 before p)
 next_lies file at (stage.Script worker workers) f before is =
     let k = in_order_err (script_step worker workers file at) f is in
-    let p = record_err (script_at file at) _ k.0 (λ a is. not_both is) k.1 in
+    let p = record_err (script_at file at) _ k.0 (λ a is. cc) k.1 in
     subst (Lies file at) (sym k.2) (script_lies file at k.0 before p)
 next_lies file at (stage.Schedule workers) f before is =
     let k = in_order_err (schedule_step workers file at) f is in
-    let p = record_err (schedule_at workers file at) _ k.0 (λ a is. not_both is) k.1 in
+    let p = record_err (schedule_at workers file at) _ k.0 (λ a is. cc) k.1 in
     subst (Lies file at) (sym k.2) (schedule_lies file workers at k.0 before p)
 next_lies file at stage.End f before is =
     let e = trailing (ltb at (length file)) at f is in (omega arith, omega arith)

@@ -8,7 +8,6 @@ use Rattle.turn_file.specs.declared.number.Group.{Group}
 use Rattle.turn_file.specs.declared.number.Group.TheVariants.{Last, More}
 use Rattle.turn_file.specs.Number.{group_of, group_before, judged, groups, number_at}
 use Rattle.turn_file.specs.Spelling.{spell_in, spell, Bytes, Stands, Spelled, OneSpelling}
-use Rattle.turn_file.proofs.Apart.{not_both}
 use Rattle.turn_file.proofs.Groups.{last_holds, more_holds, is_last, is_more}
 
 abbrev Read : Type 0
@@ -57,7 +56,7 @@ judged_ok : (at left next b : ℕ) (g : Result Group NumberFault) (r : Read) (n 
     ⊎ ((128 ≤ b) × (0 < left) × (group_before b r ≡ Ok n))
 judged_ok at left next b (Ok Last) r n is ok = let h = last_holds at b left is in inl (h.0, h.1, h.2, cc)
 judged_ok at left next b (Ok More) r n is ok = let h = more_holds at b left is in inr (h.0, h.1, ok)
-judged_ok at left next b (Err e) r n is ok = absurd (not_both (sym ok))
+judged_ok at left next b (Err e) r n is ok = cc
 
 -- the bytes begin with the spelling of what was read of them in at most `left` groups
 record ReadAs (left next : ℕ) (bytes : List ℕ) (n : ℕ × ℕ) : Type 0 where
@@ -100,13 +99,13 @@ read_more left next b bytes m most behind more byte read =
 before_ok : (b : ℕ) (r : Read) (n : ℕ × ℕ) → group_before b r ≡ Ok n →
     (m : ℕ × ℕ) × (r ≡ Ok m) × (n ≡ (b - 128 + 128 * m.0, m.1))
 before_ok b (Ok m) n ok = (m, refl, cc)
-before_ok b (Err e) n ok = absurd (not_both (sym ok))
+before_ok b (Err e) n ok = cc
 
 -- what at most `left` groups are read as
 groups_read : (at left next : ℕ) (bytes : List ℕ) (n : ℕ × ℕ) → left ≤ 5 → Bytes bytes →
     groups at left next bytes ≡ Ok n → ReadAs left next bytes n
-groups_read at zero next bytes n most each ok = absurd (not_both (sym ok))
-groups_read at (suc left) next [] n most each ok = absurd (not_both (sym ok))
+groups_read at zero next bytes n most each ok = cc
+groups_read at (suc left) next [] n most each ok = cc
 groups_read at (suc left) next (b ∷ bytes) n most each ok =
     elim (judged_ok at left (next + 1) b (group_of at b left) (groups at left (next + 1) bytes) n refl ok) [
       | inl h ↦ rw h.3 (read_last left next b bytes h.0 h.1 h.2)
@@ -163,8 +162,8 @@ groups_spelled at (suc left) next v rest most below some =
 -- what is read ends past its first place, and within the bytes
 groups_within : (at left next : ℕ) (bytes : List ℕ) (n : ℕ × ℕ) → groups at left next bytes ≡ Ok n →
     (next < n.1) × (n.1 ≤ next + length bytes)
-groups_within at zero next bytes n ok = absurd (not_both (sym ok))
-groups_within at (suc left) next [] n ok = absurd (not_both (sym ok))
+groups_within at zero next bytes n ok = cc
+groups_within at (suc left) next [] n ok = cc
 groups_within at (suc left) next (b ∷ bytes) n ok =
     elim (judged_ok at left (next + 1) b (group_of at b left) (groups at left (next + 1) bytes) n refl ok) [
       | inl h ↦ (omega (arith, ap (λ m. m.1) h.3), omega (arith, ap (λ m. m.1) h.3))
@@ -235,7 +234,7 @@ spelled_number file at v to small stands =
 pub refused_unspelled : (file : List ℕ) (at : ℕ) (fault : NumberFault) → number_at file at ≡ Err fault →
     (v to : ℕ) → v < 2 ^ 32 → Stands (spell v) file at to → ⊥
 refused_unspelled file at fault err v to small stands =
-    not_both (sym (spelled_number file at v to small stands) ∙ err)
+    cc (spelled_number file at v to small stands)
 
 -- a spelling is of bytes
 bytes_more : (b : ℕ) (xs : List ℕ) → b < 256 → Bytes xs → Bytes (b ∷ xs)

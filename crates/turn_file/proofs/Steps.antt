@@ -1,23 +1,22 @@
 -- What a reader's next step says of the file.
-use Rattle.std.proofs.Common.{◌≡◌, ℕ, Bool, true, false, cond, ltb, List, length, Some, None, Ok, Err, Result, sym, ap, subst, arith}
+use Rattle.std.proofs.Common.{◌≡◌, ℕ, Bool, true, false, cond, ltb, List, length, Some, None, Ok, Err, Result, ap, subst, arith}
 use Rattle.turn_file.specs.declared.fault.FileFault.{FileFault}
 use Rattle.turn_file.specs.declared.fault.RecordFault.{RecordFault}
 use Rattle.turn_file.specs.declared.step.Stage.{Stage}
 use Rattle.turn_file.specs.declared.step.Stage.TheVariants as stage
 use Rattle.turn_file.specs.Record.{levels_at, level_at, script_at, schedule_at}
 use Rattle.turn_file.specs.Reading.{Stepped, in_order, levels_step, level_step, script_step, schedule_step, next_step}
-use Rattle.turn_file.proofs.Apart.{not_both, some_none}
 use Rattle.turn_file.proofs.Fields.{bind_ok}
 use Rattle.turn_file.proofs.Within.{Takes, levels_take, level_takes, script_takes, schedule_takes}
 
 -- a record that was handed out was read
 pub in_order_ok : (r : Result Stepped RecordFault) (s : Stepped) → in_order r ≡ Ok (Some s) → r ≡ Ok s
 in_order_ok (Ok t) s e = let q : t ≡ s = cc in ap Ok q
-in_order_ok (Err f) s e = absurd (not_both (sym e))
+in_order_ok (Err f) s e = cc
 
 pub no_step : (t : Bool) (f : FileFault) (s : Stepped) → cond t (Err f) (Ok None) ≡ Ok (Some s) → ⊥
-no_step true f s e = not_both (sym e)
-no_step false f s e = some_none (sym e)
+no_step true f s e = cc
+no_step false f s e = cc
 
 -- what holds of the step that was made holds of the step that was handed out
 pub of_step : (P : Stepped → Type 0) (a s : Stepped) → ◌≡◌ {A = Result Stepped RecordFault} (Ok a) (Ok s) → P a → P s

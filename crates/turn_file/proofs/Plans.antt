@@ -1,10 +1,8 @@
 -- One turn of the loop that reads a plan, record by record.
-use Rattle.std.proofs.Common.{◌≡◌, ℕ, zero, suc, ◌-◌, ◌<◌, ◌≤◌, Bool, true, false, cond, ltb, List, length, Some, None, Ok, Err, Option, Result, sym, refl, ap, ◌∙◌, subst, arith}
+use Rattle.std.proofs.Common.{◌≡◌, ℕ, zero, suc, ◌-◌, ◌<◌, ◌≤◌, List, length, Some, None, Ok, Err, Option, Result, sym, refl, ap, ◌∙◌, subst, arith}
 use Rattle.turn_file.specs.declared.fault.FileFault.{FileFault}
-use Rattle.turn_file.specs.declared.fault.FileFault.TheVariants.{TooLong}
-use Rattle.turn_file.specs.Fault.{longest_file}
-use Rattle.turn_file.specs.Plan.{PlanNumbers, with_item, on_next, on_open, plan_from, plan_of, blank_plan}
-use Rattle.turn_file.specs.Reading.{Handed, Stepped, Cursor, open_file, next_from, handed_out, moved_on}
+use Rattle.turn_file.specs.Plan.{PlanNumbers, with_item, on_next, plan_from}
+use Rattle.turn_file.specs.Reading.{Handed, Stepped, Cursor, next_from, handed_out, moved_on}
 use Rattle.turn_file.proofs.Steps.{next_takes}
 
 -- what was answered tells what the step was
@@ -73,26 +71,3 @@ module _ (file : List ℕ) (c : Cursor) (p : PlanNumbers) (whole : Result PlanNu
         ap (λ (x : Cursor). x.file) there ∙ h.0,
         (less, omega arith, onward ∙ sym (plan_goes_on c p less s e) ∙ ap (λ n. plan_from n c p) (sym one) ∙ h.1.2),
       )
-
--- at the beginning
-opened_at : (too_long : Bool) (f : FileFault) (a c : Cursor) →
-    ◌≡◌ {A = Result Cursor FileFault} (Ok c) (cond too_long (Err f) (Ok a)) → a ≡ c
-opened_at true f a c e = cc
-opened_at false f a c e = cc
-
-pub not_opened : (file : List ℕ) (f : FileFault) → Err f ≡ open_file file → plan_of file ≡ Err f
-not_opened file f e = ap (λ r. on_open r (λ d. plan_from (suc (length file)) d blank_plan)) (sym e)
-
-pub begins : (file : List ℕ) (c : Cursor) (p : PlanNumbers) → Ok c ≡ open_file file → p ≡ blank_plan →
-    Completes file c p (plan_of file)
-begins file c p e b =
-    let start = opened_at (ltb longest_file (length file)) TooLong _ c e in
-    let at : 0 ≡ c.place = ap (λ (d : Cursor). d.place) start in (
-      sym (ap (λ (d : Cursor). d.file) start),
-      (
-        suc (length file),
-        omega arith,
-        ap (plan_from (suc (length file)) c) b
-            ∙ ap (λ r. on_open r (λ d. plan_from (suc (length file)) d blank_plan)) e,
-      ),
-    )

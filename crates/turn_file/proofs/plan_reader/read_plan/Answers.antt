@@ -3,12 +3,9 @@ use Rattle.std.proofs.lemmas.Result.{err_from_is_err_and}
 use Rattle.turn_file.specs.Plan.{plan_numbers, plan_of, with_item}
 use Rattle.turn_file.specs.Reading.{Handed, Stepped, Cursor, cursor_of, next_from, moved_on, seen_record, seen_answer}
 use Rattle.turn_file.proofs.Orders.{told}
-use Rattle.turn_file.proofs.Plans.{handed_some, handed_none, handed_fault, not_opened, begins, completed}
+use Rattle.turn_file.proofs.Plans.{handed_some, handed_none, handed_fault, completed}
 use Rattle.turn_file.proofs.Plans.{refused, takes, goes_on}
 use Rattle.turn_file.proofs.plan_reader.read_plan.Goals as goal
-
-pub loop-record-init : goal.loop-record-init
-loop-record-init c = begins c.args.file.now _ _ c.in_ok-reader.ensures c.blank-read.ensures
 
 pub returns-in_err-record : goal.returns-in_err-record
 returns-in_err-record c =
@@ -22,17 +19,6 @@ returns-in_err-record c =
     (p.1 ∙ ap Err p.2) refl in
     record { answer = t.0; plan = t.1; law = t.2 }
 
-pub returns-in_err-reader : goal.returns-in_err-reader
-returns-in_err-reader c =
-    let file = c.args.file.now in
-    let p = err_from_is_err_and c.from_residual.result c.from_residual.ensures.1 in
-    let f = c.in_err-reader.field-0.0 in
-    let whole = not_opened file f c.in_err-reader.ensures in
-    let t = told file c.args.plan.now _ _ (Err f) (λ i. (c.type_inv.file i).fits) whole
-    (p.1 ∙ ap Err p.2) refl in
-    record { answer = t.0; plan = t.1; law = t.2 }
-
--- the step that the reader made
 made_step : (c : goal.After-enter) → (s : Stepped) × (next_from (cursor_of c.loop-record.reader) ≡ Ok (Some s))
     × (s.handed ≡ seen_record c.in-Some.record)
 made_step c =

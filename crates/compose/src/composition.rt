@@ -1,6 +1,4 @@
 // The plan that a text describes.
-ghost use Rattle.std.specs.Prelude.{◌≤◌};
-
 use crate::failure::Failure;
 use crate::lines::Lines;
 use crate::records::{read_entries, read_level, read_script};
@@ -39,33 +37,29 @@ impl Composition {
         let mut first = lines.next_or_empty();
         let level_count = first.expect_setting("levels")?;
         self.tables.level_count = level_count;
-        if level_count < 1 || level_count > MOST_LEVELS {
+        if !(1..=MOST_LEVELS).contains(&level_count) {
             return Ok(());
         }
         first.expect_end()?;
         self.read_levels(lines, level_count)?;
         let workers = self.tables.workers();
-        if workers < 1 || workers > MOST_WORKERS {
+        if !(1..=MOST_WORKERS).contains(&workers) {
             return Ok(());
         }
         self.read_scripts(lines, workers)?;
         self.read_schedule(lines)
     }
 
-    fn read_levels(&mut self, lines: &mut Lines<'_>, count: u32) -> Result<(), Unreadable>
-        requires { count ≤ 4 }
-    {
-        for rank in 0..count {
-            self.tables.levels[rank as usize] = read_level(lines.next_or_empty(), rank + 1)?;
+    fn read_levels(&mut self, lines: &mut Lines<'_>, count: u32) -> Result<(), Unreadable> {
+        for (level, number) in self.tables.levels.iter_mut().zip(1..=count) {
+            *level = read_level(lines.next_or_empty(), number)?;
         }
         Ok(())
     }
 
-    fn read_scripts(&mut self, lines: &mut Lines<'_>, workers: u32) -> Result<(), Unreadable>
-        requires { workers ≤ 64 }
-    {
-        for worker in 0..workers {
-            self.tables.scripts[worker as usize] = read_script(lines.next_or_empty(), worker)?;
+    fn read_scripts(&mut self, lines: &mut Lines<'_>, workers: u32) -> Result<(), Unreadable> {
+        for (script, worker) in self.tables.scripts.iter_mut().zip(0..workers) {
+            *script = read_script(lines.next_or_empty(), worker)?;
         }
         Ok(())
     }

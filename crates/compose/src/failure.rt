@@ -3,7 +3,7 @@ ghost use Rattle.std.specs.Prelude.{◌≡◌};
 ghost use Rattle.compose.specs.Failing.{unreadable, refused, system, IsOutOfMemory, failure_text};
 
 use crate::unreadable::Unreadable;
-use std::alloc::AllocFailed;
+use std::alloc::{AllocError, AllocFailed};
 use std::{fmt, io};
 use turn_file::fault::FileFault;
 
@@ -20,7 +20,7 @@ impl fmt::Display for Failure {
     fn fmt<W: fmt::Write>(&self, f: &mut fmt::Formatter<W>) -> fmt::Result {
         match self {
             Failure::Unreadable(unreadable) => write!(f, "{unreadable}"),
-            Failure::Refused(fault) => write!(f, "{}", fault.numbers()),
+            Failure::Refused(fault) => write!(f, "{fault}"),
             Failure::System(error) => write!(f, "{error}"),
         }
     }
@@ -47,6 +47,14 @@ impl From<io::Error> for Failure {
 
     fn from(error: io::Error) -> Failure {
         Failure::System(error)
+    }
+}
+
+impl From<AllocError> for Failure {
+    ghost from_gives = { λ _ f. IsOutOfMemory f };
+
+    fn from(error: AllocError) -> Failure {
+        Failure::System(error.into())
     }
 }
 

@@ -15,16 +15,16 @@ use composition::Composition;
 use failure::Failure;
 use std::io::{Read, Write};
 use std::process::ExitCode;
-use turn_file::limits::LONGEST_FILE;
-use turn_writer::plan_writer::write_plan;
+use turn_writer::plan_writer::{file_length, write_plan};
 
 fn run(rt: &HostRuntime) -> Result<(), Failure> {
     let mut text = Vec::new(rt.alloc());
     rt.stdin().read_to_end(&mut text)?;
     let composition = Composition::read(rt.alloc(), text.as_slice())?;
-    let mut file = [0; LONGEST_FILE];
-    let length = write_plan(&composition.plan(), &mut file)?;
-    rt.stdout().write_all(&file[0..length])?;
+    let plan = composition.plan();
+    let mut file = vec![in rt.alloc(); 0; file_length(&plan)?]?;
+    write_plan(&plan, file.as_mut_slice())?;
+    rt.stdout().write_all(file.as_slice())?;
     Ok(())
 }
 

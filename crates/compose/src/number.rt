@@ -9,10 +9,8 @@ fn digit(byte: u8) -> Option<u8> {
 
 // The number that a word is, if it has no byte but digits and 32 bits hold it.
 pub(crate) fn parse_number(word: &[u8]) -> Option<u32> {
-    let mut number: u32 = 0;
-    for byte in word {
+    word.iter().try_fold(0u32, |number, byte| {
         let digit = digit(*byte)?;
-        number = number.checked_mul(10)?.checked_add(u32::from(digit))?;
-    }
-    Some(number)
+        number.checked_mul(10)?.checked_add(u32::from(digit))
+    })
 }

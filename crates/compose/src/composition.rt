@@ -67,7 +67,7 @@ impl Composition {
     // The schedule has at least one line, and goes on to the end of the text.
     fn read_schedule(&mut self, lines: &mut Lines<'_>) -> Result<(), Failure> {
         read_entries(lines.next_or_empty(), &mut self.entries)?;
-        while let Some(line) = lines.next_line() {
+        for line in lines {
             read_entries(line, &mut self.entries)?;
         }
         Ok(())

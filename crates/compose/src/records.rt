@@ -2,12 +2,13 @@
 ghost use Rattle.std.specs.Prelude.{◌≡◌, min};
 
 use crate::failure::Failure;
+use crate::number::parse_number;
 use crate::unreadable::{Expected, Unreadable};
 use crate::words::Words;
 use turn_file::plan::{Algorithm, Level, Script};
 
 fn read_algorithm(line: &mut Words<'_>) -> Result<Algorithm, Unreadable> {
-    match line.next_word() {
+    match line.next() {
         Some(b"ticket") => Ok(Algorithm::Ticket),
         Some(b"mcs") => Ok(Algorithm::Mcs),
         _ => Err(line.lacks(Expected::Algorithm)),
@@ -52,7 +53,9 @@ fn entry_of(number: u32) -> u8
 // Adds the entries of a line of the schedule.
 pub(crate) fn read_entries(mut line: Words<'_>, entries: &mut Vec<u8>) -> Result<(), Failure> {
     line.expect_word("schedule")?;
-    while let Some(number) = line.next_number()? {
+    let unreadable = line.lacks(Expected::Number);
+    for word in line {
+        let number = parse_number(word).ok_or(unreadable)?;
         entries.push(entry_of(number))?;
     }
     Ok(())

@@ -1,52 +1,39 @@
-// The words of a line, parted by blanks.
-ghost use Rattle.std.specs.Prelude.{◌≡◌, ◌+◌, ◌≤◌, length, IfOk};
-ghost use Rattle.compose.specs.Left.{line_left, Took};
+// The words of a line, parted by blanks. A comment is no part of its line.
+ghost use Rattle.std.specs.Prelude.{◌≡◌, ◌++◌, length};
+ghost use Rattle.std.specs.Iterator.{at_most};
 
 use crate::number::parse_number;
 use crate::unreadable::{Expected, Unreadable};
 
-// What is left of a line, which has this number in the text. It is empty, or begins with a word.
+// What is left of a line, which has this number in the text.
 #[derive(Drop)]
 pub(crate) struct Words<'a> {
     line: usize,
     rest: &'a [u8],
 }
 
-fn is_blank(byte: u8) -> bool {
-    matches!(byte, b' ' | b'\t' | b'\r')
+// The byte that ends a line may stand at its end.
+fn is_blank(byte: &u8) -> bool {
+    matches!(byte, b' ' | b'\t' | b'\r' | b'\n')
 }
 
-fn after_blanks(text: &[u8]) -> &[u8]
-    ensures { length result.now ≤ length text.now }
+// The bytes before the first that passes, and the others.
+fn split_before<P: FnMut(&u8) -> bool>(text: &[u8], passes: P) -> (&[u8], &[u8])
+    requires { (state : P) (byte : _) → P.pre state byte }
+    ensures { text.now ≡ result.0.now ++ result.1.now }
 {
-    for (place, byte) in text.iter().enumerate() {
-        if !is_blank(*byte) {
-            return &text[place..];
-        }
-    }
-    &[]
-}
-
-// The bytes before the first blank, and the others.
-fn split_word(text: &[u8]) -> (&[u8], &[u8])
-    ensures { length result.0.now + length result.1.now ≡ length text.now }
-{
-    for (place, byte) in text.iter().enumerate() {
-        if is_blank(*byte) {
-            return text.split_at(place);
-        }
-    }
-    (text, &[])
+    let place = text.iter().position(passes).unwrap_or(text.len());
+    text.split_at(place)
 }
 
 impl<'a> Words<'a> {
     pub(crate) fn new(line: usize, text: &'a [u8]) -> Words<'a> {
-        let rest = after_blanks(text);
+        let (rest, _comment) = split_before(text, |byte| *byte == b'#');
         Words { line, rest }
     }
 
     pub(crate) fn is_empty(&self) -> bool {
-        self.rest.is_empty()
+        self.rest.iter().all(is_blank)
     }
 
     // The line is not readable, since it lacks this.
@@ -55,34 +42,14 @@ impl<'a> Words<'a> {
         Unreadable { line, expected }
     }
 
-    // The next word, or none at the end of the line.
-    pub(crate) fn next_word(&mut self) -> Option<&'a [u8]>
-        ensures { Took result (line_left self.old) (line_left self.new) }
-    {
-        let (word, rest) = split_word(self.rest);
-        self.rest = after_blanks(rest);
-        if word.is_empty() { None } else { Some(word) }
-    }
-
-    // The next word, which has to be a number, or none at the end of the line.
-    pub(crate) fn next_number(&mut self) -> Result<Option<u32>, Unreadable>
-        ensures { IfOk result (λ o. Took o (line_left self.old) (line_left self.new)) }
-    {
-        let Some(word) = self.next_word() else {
-            return Ok(None);
-        };
-        match parse_number(word) {
-            Some(number) => Ok(Some(number)),
-            None => Err(self.lacks(Expected::Number)),
-        }
-    }
-
     pub(crate) fn expect_number(&mut self) -> Result<u32, Unreadable> {
-        self.next_number()?.ok_or(self.lacks(Expected::Number))
+        self.next()
+            .and_then(parse_number)
+            .ok_or(self.lacks(Expected::Number))
     }
 
     pub(crate) fn expect_word(&mut self, word: &'static str) -> Result<(), Unreadable> {
-        if self.next_word() == Some(word.as_bytes()) {
+        if self.next() == Some(word.as_bytes()) {
             Ok(())
         } else {
             Err(self.lacks(Expected::Word(word)))
@@ -101,7 +68,9 @@ impl<'a> Words<'a> {
         name: &'static str,
         number: u32,
     ) -> Result<(), Unreadable> {
-        if self.next_word() == Some(name.as_bytes()) && self.next_number() == Ok(Some(number)) {
+        if self.next() == Some(name.as_bytes())
+            && self.next().and_then(parse_number) == Some(number)
+        {
             Ok(())
         } else {
             Err(self.lacks(Expected::Record { name, number }))
@@ -114,5 +83,18 @@ impl<'a> Words<'a> {
         } else {
             Err(self.lacks(Expected::EndOfLine))
         }
+    }
+}
+
+impl<'a> Iterator for Words<'a> {
+    type Item = &'a [u8];
+
+    ghost remaining = { λ words. at_most (length words.rest.now) };
+
+    fn next(&mut self) -> Option<&'a [u8]> {
+        let (_blanks, rest) = split_before(self.rest, |byte| !is_blank(byte));
+        let (word, rest) = split_before(rest, is_blank);
+        self.rest = rest;
+        if word.is_empty() { None } else { Some(word) }
     }
 }

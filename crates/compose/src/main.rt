@@ -20,11 +20,11 @@ use turn_writer::plan_writer::{file_length, write_plan};
 fn run(rt: &HostRuntime) -> Result<(), Failure> {
     let mut text = Vec::new(rt.alloc());
     rt.stdin().read_to_end(&mut text)?;
-    let composition = Composition::read(rt.alloc(), text.as_slice())?;
+    let composition = Composition::read(rt.alloc(), &text)?;
     let plan = composition.plan();
     let mut file = vec![in rt.alloc(); 0; file_length(&plan)?]?;
-    write_plan(&plan, file.as_mut_slice())?;
-    rt.stdout().write_all(file.as_slice())?;
+    write_plan(&plan, &mut file)?;
+    rt.stdout().write_all(&file)?;
     Ok(())
 }
 

@@ -38,8 +38,10 @@ impl<'a> Words<'a> {
 
     // The line is not readable, since it lacks this.
     pub(crate) fn lacks(&self, expected: Expected) -> Unreadable {
-        let line = self.line;
-        Unreadable { line, expected }
+        Unreadable {
+            line: self.line,
+            expected,
+        }
     }
 
     pub(crate) fn expect_number(&mut self) -> Result<u32, Unreadable> {

@@ -53,9 +53,9 @@ fn entry_of(number: u32) -> u8
 // Adds the entries of a line of the schedule.
 pub(crate) fn read_entries(mut line: Words<'_>, entries: &mut Vec<u8>) -> Result<(), Failure> {
     line.expect_word("schedule")?;
-    let unreadable = line.lacks(Expected::Number);
+    let lacks_number = line.lacks(Expected::Number);
     for word in line {
-        let number = parse_number(word).ok_or(unreadable)?;
+        let number = parse_number(word).ok_or(lacks_number)?;
         entries.push(entry_of(number))?;
     }
     Ok(())

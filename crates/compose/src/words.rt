@@ -19,7 +19,7 @@ fn is_blank(byte: &u8) -> bool {
 
 // The bytes before the first that passes, and the others.
 fn split_before<P: FnMut(&u8) -> bool>(text: &[u8], passes: P) -> (&[u8], &[u8])
-    requires { (state : P) (byte : _) → P.pre state byte }
+    requires { P.IsAlwaysCallable passes }
     ensures { text.now ≡ result.0.now ++ result.1.now }
 {
     let place = text.iter().position(passes).unwrap_or(text.len());

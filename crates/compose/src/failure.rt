@@ -50,6 +50,7 @@ impl From<io::Error> for Failure {
     }
 }
 
+// No memory for the file.
 impl From<AllocError> for Failure {
     ghost from_gives = { λ _ f. IsOutOfMemory f };
 

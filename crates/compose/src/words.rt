@@ -12,7 +12,7 @@ pub(crate) struct Words<'a> {
     rest: &'a [u8],
 }
 
-// The byte that ends a line may stand at its end.
+// A line keeps the byte that ends it, which is a blank like the others.
 fn is_blank(byte: &u8) -> bool {
     matches!(byte, b' ' | b'\t' | b'\r' | b'\n')
 }

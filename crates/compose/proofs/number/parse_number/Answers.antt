@@ -7,4 +7,4 @@ pub returns : goal.returns
 returns c =
     let ran = c.try_fold.ensures.ran in
     subst (λ ds. Reads 0 ds c.try_fold.result) c.iter.ensures.rest
-    (reads_number _ _ (λ n x v q called. search rules) _ ran.0 ran.1 _ _ 0 ran.3 ran.2 _ (omega arith) ran.4 ran.5 ran.6)
+    (reads_number _ _ (λ n x v q call. search rules) _ ran.0 ran.1 _ _ 0 ran.3 ran.2 _ (omega arith) ran.4 ran.5 ran.6)

@@ -3,23 +3,19 @@
 ghost use Rattle.std.specs.Prelude.{◌<◌, IfOk};
 
 use crate::repeated::split_times;
-use anyhow::{Context, anyhow};
+use anyhow::{Context, bail};
 use std::alloc::Global;
 
 fn digit(c: u8) -> anyhow::Result<u8>
     ensures { IfOk result (λ d. d < 16) }
 {
-    match c {
-        b'0'..=b'9' => Ok(c - b'0'),
-        b'a'..=b'f' => Ok(c - b'a' + 10),
-        b'A'..=b'F' => Ok(c - b'A' + 10),
-        _ => Err(anyhow!("no hexadecimal digit")),
-    }
+    let digit = char::from(c).to_digit(16).context("no hexadecimal digit")?;
+    Ok(digit as u8)
 }
 
 fn byte_of(pair: &[u8]) -> anyhow::Result<u8> {
     let [high, low] = pair else {
-        return Err(anyhow!("a byte of one digit"));
+        bail!("a byte of one digit");
     };
     Ok(digit(*high)? * 16 + digit(*low)?)
 }

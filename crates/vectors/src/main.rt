@@ -15,9 +15,37 @@ mod writing;
 
 use hex::parse_line;
 use plan_line::PlanLine;
+use std::alloc::Global;
 use std::io::{BufRead, BufReader, BufWriter, Write};
-use verdict::judge;
+use turn_file::fault::FileFault;
+use turn_file::plan::Plan;
+use turn_file::plan_reader::read_plan;
+use verdict::Summary;
 use writing::{is_written_back, write_line};
+
+fn read(file: &[u8]) -> Result<Plan<'_>, FileFault> {
+    let mut plan = Plan::blank();
+    read_plan(file, &mut plan)?;
+    Ok(plan)
+}
+
+fn judge_file(out: &mut impl Write, heap: Global, line: &str) -> anyhow::Result<()> {
+    let file = parse_line(heap, line)?;
+    match read(file.as_slice()) {
+        Ok(plan) if is_written_back(heap, &plan, file.as_slice())? => {
+            writeln!(out, "{}", Summary::of(&plan))?
+        }
+        Ok(_) => writeln!(out, "changed")?,
+        Err(fault) => writeln!(out, "{fault}")?,
+    }
+    Ok(())
+}
+
+fn judge_plan(out: &mut impl Write, heap: Global, words: &str) -> anyhow::Result<()> {
+    let line = PlanLine::parse(heap, words)?;
+    writeln!(out, "{}", write_line(heap, &line)?)?;
+    Ok(())
+}
 
 fn run(rt: &HostRuntime) -> anyhow::Result<()> {
     let heap = rt.alloc();
@@ -25,18 +53,8 @@ fn run(rt: &HostRuntime) -> anyhow::Result<()> {
     for line in BufReader::new(heap, rt.stdin())?.lines(heap) {
         let line = line?;
         match line.as_str().strip_prefix("plan ") {
-            Some(words) => {
-                let plan = PlanLine::parse(heap, words)?;
-                writeln!(out, "{}", write_line(heap, &plan)?)?;
-            }
-            None => {
-                let file = parse_line(heap, line.as_str())?;
-                if is_written_back(heap, file.as_slice())? {
-                    writeln!(out, "{}", judge(file.as_slice()))?;
-                } else {
-                    writeln!(out, "changed")?;
-                }
-            }
+            Some(words) => judge_plan(&mut out, heap, words)?,
+            None => judge_file(&mut out, heap, line.as_str())?,
         }
     }
     out.flush()?;

@@ -3,7 +3,7 @@
 // COUNT is the plan's count of levels. A level is its algorithm, fan-out and handoff limit, a script its turns,
 // rest and hold. The tables may be shorter than COUNT and the fan-outs say, or longer; what is missing stays blank.
 use crate::repeated::split_times;
-use anyhow::{Context, anyhow};
+use anyhow::{Context, bail, ensure};
 use std::alloc::Global;
 use turn_file::plan::{Algorithm, Level, Plan, Script};
 
@@ -21,10 +21,20 @@ impl PlanLine {
         let (sizes, rest) = line.split_once("levels").context("no levels")?;
         let (levels, rest) = rest.split_once("scripts").context("no scripts")?;
         let (scripts, schedule) = rest.split_once("schedule").context("no schedule")?;
-        let mut tables = Plan::blank();
-        let space = parse_sizes(&mut tables, numbers(heap, sizes)?.as_slice())?;
-        parse_levels(&mut tables, numbers(heap, levels)?.as_slice())?;
-        parse_scripts(&mut tables, numbers(heap, scripts)?.as_slice())?;
+        let (space, level_count) = parse_sizes(heap, sizes)?;
+        let mut tables = Plan {
+            level_count,
+            ..Plan::blank()
+        };
+        let levels = numbers(heap, levels)?;
+        enter(&mut tables.levels, levels.as_slice(), level_of, "levels")?;
+        let scripts = numbers(heap, scripts)?;
+        enter(
+            &mut tables.scripts,
+            scripts.as_slice(),
+            script_of,
+            "scripts",
+        )?;
         let entries = parse_entries(heap, schedule)?;
         Ok(PlanLine {
             space,
@@ -42,65 +52,54 @@ impl PlanLine {
 }
 
 fn numbers(heap: Global, text: &str) -> anyhow::Result<Vec<u32>> {
-    let mut numbers = Vec::new(heap);
-    for word in text.split_whitespace() {
-        numbers.push(word.parse::<u32>()?)?;
-    }
-    Ok(numbers)
+    text.split_whitespace()
+        .map(|word| -> anyhow::Result<u32> { Ok(word.parse()?) })
+        .try_collect(heap)
 }
 
-// Enters the count of levels; the answer is the space.
-fn parse_sizes(tables: &mut Plan<'_>, numbers: &[u32]) -> anyhow::Result<usize> {
-    let [space, level_count] = numbers else {
-        return Err(anyhow!("a plan begins with its space and its count of levels"));
+// The space and the count of levels.
+fn parse_sizes(heap: Global, text: &str) -> anyhow::Result<(usize, u32)> {
+    let sizes = numbers(heap, text)?;
+    let [space, level_count] = sizes.as_slice() else {
+        bail!("a plan begins with its space and its count of levels");
     };
-    tables.level_count = *level_count;
-    Ok(*space as usize)
-}
-
-fn algorithm_of(number: u32) -> anyhow::Result<Algorithm> {
-    match number {
-        1 => Ok(Algorithm::Ticket),
-        2 => Ok(Algorithm::Mcs),
-        _ => Err(anyhow!("no such algorithm")),
-    }
+    Ok((*space as usize, *level_count))
 }
 
 fn level_of(numbers: &[u32]) -> anyhow::Result<Level> {
-    let [algorithm, fan_out, handoff_limit] = numbers else {
-        return Err(anyhow!("a level is not three numbers"));
+    let [algorithm, fan_out, handoff_limit] = *numbers else {
+        bail!("a level is not three numbers");
     };
+    let algorithm = Algorithm::try_from(algorithm)
+        .ok()
+        .context("no such algorithm")?;
     Ok(Level {
-        algorithm: algorithm_of(*algorithm)?,
-        fan_out: *fan_out,
-        handoff_limit: *handoff_limit,
+        algorithm,
+        fan_out,
+        handoff_limit,
     })
 }
 
 fn script_of(numbers: &[u32]) -> anyhow::Result<Script> {
-    let [turns, rest, hold] = numbers else {
-        return Err(anyhow!("a script is not three numbers"));
+    let [turns, rest, hold] = *numbers else {
+        bail!("a script is not three numbers");
     };
-    Ok(Script {
-        turns: *turns,
-        rest: *rest,
-        hold: *hold,
-    })
+    Ok(Script { turns, rest, hold })
 }
 
-fn parse_levels(tables: &mut Plan<'_>, numbers: &[u32]) -> anyhow::Result<()> {
-    for (rank, level) in numbers.chunks(3).enumerate() {
-        let place = tables.levels.get_mut(rank).context("too many levels")?;
-        *place = level_of(level)?;
+// Enters what each three numbers say, from the front of the table on.
+fn enter<T: Drop, F: Fn(&[u32]) -> anyhow::Result<T>>(
+    table: &mut [T],
+    numbers: &[u32],
+    entry_of: F,
+    names: &str,
+) -> anyhow::Result<()>
+    requires { F.IsAlwaysCallable entry_of }
+{
+    for (place, three) in table.iter_mut().zip(numbers.chunks(3)) {
+        *place = entry_of(three)?;
     }
-    Ok(())
-}
-
-fn parse_scripts(tables: &mut Plan<'_>, numbers: &[u32]) -> anyhow::Result<()> {
-    for (worker, script) in numbers.chunks(3).enumerate() {
-        let place = tables.scripts.get_mut(worker).context("too many scripts")?;
-        *place = script_of(script)?;
-    }
+    ensure!(numbers.chunks(3).len() <= table.len(), "too many {names}");
     Ok(())
 }
 
@@ -108,7 +107,7 @@ fn parse_entries(heap: Global, text: &str) -> anyhow::Result<Vec<u8>> {
     let mut entries = Vec::new(heap);
     for word in text.split_whitespace() {
         let (entry, times) = split_times(word)?;
-        entries.resize(entries.len().saturating_add(times), entry.parse::<u8>()?)?;
+        entries.resize(entries.len().saturating_add(times), entry.parse()?)?;
     }
     Ok(entries)
 }

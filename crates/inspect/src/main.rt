@@ -25,7 +25,7 @@ fn main(rt: HostRuntime) -> io::Result<()> {
     let mut plan = Plan::blank();
     match read_plan(file.as_slice(), &mut plan) {
         Ok(()) => write!(out, "{}", PlanText(plan))?,
-        Err(fault) => writeln!(out, "{}", fault.numbers())?,
+        Err(fault) => writeln!(out, "{fault}")?,
     }
     out.flush()
 }

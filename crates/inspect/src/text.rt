@@ -1,6 +1,6 @@
 // A plan as text: a line for each record, and what follows from other numbers in comments.
 ghost use Rattle.std.specs.Fmt.{WritesOnOk};
-ghost use Rattle.std.specs.Prelude.{Some};
+ghost use Rattle.std.specs.Prelude.{◌≡◌, Some};
 ghost use Rattle.inspect.specs.Text.{algorithm_text, level_text, script_text, schedule_text};
 ghost use Rattle.inspect.specs.Text.{level_lines, script_lines, schedule_lines, plan_text};
 ghost use Rattle.turn_file.specs.Plan.{plan_numbers};
@@ -10,17 +10,12 @@ use turn_file::plan::{Algorithm, Level, Plan, Script};
 
 const ENTRIES_PER_LINE: usize = 32;
 
-#[derive(Drop)]
-struct AlgorithmName(Algorithm);
-
-impl fmt::Display for AlgorithmName {
-    ghost output = { λ a. Some (algorithm_text a.0) };
-
-    fn fmt<W: fmt::Write>(&self, f: &mut fmt::Formatter<W>) -> fmt::Result {
-        match self.0 {
-            Algorithm::Ticket => f.write_str("ticket"),
-            Algorithm::Mcs => f.write_str("mcs"),
-        }
+fn algorithm_name(algorithm: Algorithm) -> &'static str
+    ensures { result.now ≡ algorithm_text algorithm }
+{
+    match algorithm {
+        Algorithm::Ticket => "ticket",
+        Algorithm::Mcs => "mcs",
     }
 }
 
@@ -41,9 +36,12 @@ impl fmt::Display for LevelLine {
             level,
             lanes,
         } = self;
-        let algorithm = AlgorithmName(level.algorithm);
-        let fan_out = level.fan_out;
-        let limit = level.handoff_limit;
+        let Level {
+            fan_out,
+            handoff_limit,
+            ..
+        } = level;
+        let algorithm = algorithm_name(level.algorithm);
         if *number == 1 {
             write!(
                 f,
@@ -52,7 +50,7 @@ impl fmt::Display for LevelLine {
         } else {
             write!(
                 f,
-                "level {number} {algorithm} fan-out {fan_out} handoff-limit {limit} # lanes {lanes}"
+                "level {number} {algorithm} fan-out {fan_out} handoff-limit {handoff_limit} # lanes {lanes}"
             )
         }
     }
@@ -96,10 +94,10 @@ fn write_levels<W: fmt::Write>(f: &mut fmt::Formatter<W>, levels: &[Level]) -> f
     ensures { WritesOnOk W.write_str_gives f.old result (level_lines 1 1 levels.now) f.new }
 {
     let mut lanes = 1;
-    for (rank, level) in levels.iter().enumerate() {
+    for (rank, &level) in levels.iter().enumerate() {
         let line = LevelLine {
             number: rank + 1,
-            level: *level,
+            level,
             lanes,
         };
         writeln!(f, "{line}")?;
@@ -111,10 +109,8 @@ fn write_levels<W: fmt::Write>(f: &mut fmt::Formatter<W>, levels: &[Level]) -> f
 fn write_scripts<W: fmt::Write>(f: &mut fmt::Formatter<W>, scripts: &[Script]) -> fmt::Result
     ensures { WritesOnOk W.write_str_gives f.old result (script_lines 0 scripts.now) f.new }
 {
-    for (worker, script) in scripts.iter().enumerate() {
-        let script = *script;
-        let line = ScriptLine { worker, script };
-        writeln!(f, "{line}")?;
+    for (worker, &script) in scripts.iter().enumerate() {
+        writeln!(f, "{}", ScriptLine { worker, script })?;
     }
     Ok(())
 }

@@ -1,21 +1,14 @@
-use Rattle.std.proofs.Common.{◌+◌, refl}
-use Rattle.std.proofs.lemmas.List.{at_drop_more, at_drop_all}
-use Rattle.inspect.specs.Text.{level_lines}
-use Rattle.inspect.proofs.Printed.{nothing_yet, one_more, all}
+use Rattle.std.proofs.Common.{◌+◌, ◌++◌, codes, refl}
+use Rattle.turn_file.specs.Plan.{lanes_below}
+use Rattle.inspect.specs.Text.{level_text, level_lines}
+use Rattle.inspect.proofs.Printed.{one_element}
 use Rattle.inspect.proofs.text.write_levels.Goals as goal
-
-pub loop-rank-init : goal.loop-rank-init
-loop-rank-init g c plain = nothing_yet plain
 
 pub loop-rank-preserved : goal.loop-rank-preserved
 loop-rank-preserved g c plain =
-    let before = c.loop-rank.invariant plain in
-    let line = c.in_ok-writeln.ensures.writes before.put.plain refl in
+    let number = c.loop-rank.rank + 1 in
+    let lanes = c.loop-rank.lanes in
     rw c.lanes_below-lanes.ensures
-    (one_more before (at_drop_more (level_lines (c.loop-rank.rank + 1) c.loop-rank.lanes) _ _ _
-    c.loop-rank-test.true) line)
-
-pub returns : goal.returns
-returns g c plain ok =
-    all (c.loop-rank.invariant plain)
-    (at_drop_all (level_lines (c.loop-rank.rank + 1) c.loop-rank.lanes) _ _ c.loop-rank-test.false)
+    (one_element (λ l. level_text number l lanes ++ codes "\n") (level_lines number lanes)
+    (λ l. level_lines (number + 1) (lanes_below lanes l)) _ _ (λ l ls. refl) c.loop-rank-test.true
+    (c.loop-rank.invariant plain) c.in_ok-writeln.ensures.writes)

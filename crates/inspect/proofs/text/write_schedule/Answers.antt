@@ -1,23 +1,15 @@
-use Rattle.std.proofs.Common.{min, length, refl, ap, ◌∙◌, arith, rules}
-use Rattle.std.specs.Slice.Iter.{chunks_rest, chunks_size}
+use Rattle.std.proofs.Common.{min, length, ◌++◌, codes, ap, ◌∙◌, rules}
+use Rattle.std.specs.Slice.Iter.{chunks_rest}
+use Rattle.inspect.specs.Text.{schedule_text, entry_lines}
 use Rattle.std.proofs.Output.{has_written_of_eq}
 use Rattle.inspect.proofs.Lines.{next_line, no_line, with_entries}
-use Rattle.inspect.proofs.Printed.{nothing_yet, one_more, all}
+use Rattle.inspect.proofs.Printed.{one_more, all}
 use Rattle.inspect.proofs.text.write_schedule.Goals as goal
-
-pub loop-line-init : goal.loop-line-init
-loop-line-init g c =
-    let becomes = c.into_iter-line-iterator.ensures.into_iter_gives in
-    let whole = ap chunks_rest becomes ∙ c.chunks-line-items.ensures.rest in (
-      ap chunks_size becomes ∙ c.chunks-line-items.ensures.size,
-      length c.args.entries.now,
-      rw whole (omega arith),
-      rw whole (λ plain. nothing_yet plain),
-    )
 
 pub loop-line-preserved : goal.loop-line-preserved
 loop-line-preserved g c =
     let old = c.loop-line.invariant in
+    let es = c.args.entries.now in
     let rest = chunks_rest c.loop-line.line-iterator in
     let same = c.in-Some.ensures.steps.0 in
     let cut = c.in-Some.ensures.steps.1 in
@@ -27,8 +19,8 @@ loop-line-preserved g c =
       next.0,
       next.1,
       λ plain.
-          let before = old.3 plain in
-          one_more before next.2 (c.in_ok-writeln.ensures.writes before.put.plain refl),
+          one_more {whole = entry_lines (length es) es} (schedule_text c.in-Some.line.now ++ codes "\n") (old.3 plain)
+          next.2 c.in_ok-writeln.ensures.writes,
     )
 
 pub returns : goal.returns

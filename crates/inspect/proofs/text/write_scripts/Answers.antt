@@ -1,19 +1,10 @@
-use Rattle.std.proofs.Common.{refl}
-use Rattle.std.proofs.lemmas.List.{at_drop_more, at_drop_all}
-use Rattle.inspect.specs.Text.{script_lines}
-use Rattle.inspect.proofs.Printed.{nothing_yet, one_more, all}
+use Rattle.std.proofs.Common.{◌+◌, ◌++◌, codes, refl}
+use Rattle.inspect.specs.Text.{script_text, script_lines}
+use Rattle.inspect.proofs.Printed.{one_element}
 use Rattle.inspect.proofs.text.write_scripts.Goals as goal
-
-pub loop-worker-init : goal.loop-worker-init
-loop-worker-init g c plain = nothing_yet plain
 
 pub loop-worker-preserved : goal.loop-worker-preserved
 loop-worker-preserved g c plain =
-    let before = c.loop-worker.invariant plain in
-    let line = c.in_ok-writeln.ensures.writes before.put.plain refl in
-    one_more before (at_drop_more (script_lines c.loop-worker.worker) _ _ _ c.loop-worker-test.true) line
-
-pub returns : goal.returns
-returns g c plain ok =
-    all (c.loop-worker.invariant plain)
-    (at_drop_all (script_lines c.loop-worker.worker) _ _ c.loop-worker-test.false)
+    let worker = c.loop-worker.worker in
+    one_element (λ s. script_text worker s ++ codes "\n") (script_lines worker) (λ s. script_lines (worker + 1))
+    _ _ (λ s ss. refl) c.loop-worker-test.true (c.loop-worker.invariant plain) c.in_ok-writeln.ensures.writes

@@ -1,19 +1,15 @@
 use Rattle.std.proofs.Common.{refl}
 use Rattle.std.specs.List.{flat_map}
 use Rattle.std.proofs.Output.{has_written_append}
-use Rattle.std.proofs.lemmas.List.{at_drop_more, at_drop_all}
+use Rattle.std.proofs.lemmas.List.{at_drop_all}
 use Rattle.inspect.specs.Text.{entry_text}
-use Rattle.inspect.proofs.Printed.{nothing_yet, one_more, all}
+use Rattle.inspect.proofs.Printed.{one_element, all}
 use Rattle.inspect.proofs.text.ScheduleLineDisplay.fmt.Goals as goal
-
-pub loop-entry-init : goal.loop-entry-init
-loop-entry-init g c plain = nothing_yet plain
 
 pub loop-entry-preserved : goal.loop-entry-preserved
 loop-entry-preserved g c plain =
-    let before = c.loop-entry.invariant plain in
-    let entry = c.in_ok-write.ensures.writes before.put.plain refl in
-    one_more before (at_drop_more (flat_map entry_text) _ _ _ c.loop-entry-test.true) entry
+    one_element entry_text (flat_map entry_text) (λ e. flat_map entry_text) _ _ (λ e es. refl) c.loop-entry-test.true
+    (c.loop-entry.invariant plain) c.in_ok-write.ensures.writes
 
 pub returns-clause-writes : goal.returns-clause-writes
 returns-clause-writes g c plain ok =

@@ -1,27 +1,15 @@
 -- The lines of a schedule, which have 32 entries each but the last.
-use Rattle.std.proofs.Common.{◌≡◌, ℕ, zero, suc, ◌<◌, ◌≤◌, min, List, [], ◌∷◌, ◌++◌, length, take, drop, codes, sym, refl, ap, ◌∙◌, ⊎_elim, append-nil, arith, length-append}
-use Rattle.std.proofs.lemmas.List.{nil_from_length, take_all, drop_all, take-append-le, drop-append-le}
-use Rattle.std.proofs.lemmas.Bool.{cases_lt}
+use Rattle.std.proofs.Common.{◌≡◌, ℕ, zero, suc, ◌<◌, ◌≤◌, min, List, [], ◌∷◌, ◌++◌, length, take, drop, codes, sym, refl, ap, ◌∙◌, arith, length-append}
+use Rattle.std.proofs.lemmas.List.{take_min, drop_min, take_at, drop_at}
 use Rattle.inspect.specs.Text.{schedule_text, entry_lines, schedule_lines}
 
 -- a front of 32 entries, or of all
 cut_at : (es line next : List ℕ) → es ≡ line ++ next → length line ≡ min 32 (length es) → (take 32 es ≡ line)
     × (drop 32 es ≡ next)
-cut_at es line next cut long =
-    let parts = ap length cut ∙ length-append line next in
-    ⊎_elim
-    (λ few.
-    let none = nil_from_length next (omega arith) in (
-      take_all 32 es (omega arith) ∙ cut ∙ ap (λ l. line ++ l) none ∙ append-nil line,
-      drop_all 32 es (omega arith)
-          ∙ sym none,
-    ))
-    (λ many. (
-      ap (take 32) cut ∙ take-append-le 32 line next (omega arith) ∙ take_all 32 line (omega arith),
-      ap (drop 32) cut
-          ∙ drop-append-le 32 line next (omega arith) ∙ ap (λ l. l ++ next) (drop_all 32 line (omega arith)),
-    ))
-    (cases_lt (length es) 32)
+cut_at es line next cut long = (
+  sym (take_min 32 es) ∙ ap (take (min 32 (length es))) cut ∙ take_at line next _ long,
+  sym (drop_min 32 es) ∙ ap (drop (min 32 (length es))) cut ∙ drop_at line next _ long,
+)
 
 pub next_line : (most : ℕ) (es line next : List ℕ) → 0 < length es → length es ≤ most → es ≡ line ++ next →
     length line ≡ min 32 (length es) → (more : ℕ) × (length next ≤ more)

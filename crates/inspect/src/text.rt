@@ -37,11 +37,11 @@ impl fmt::Display for LevelLine {
             lanes,
         } = self;
         let Level {
+            algorithm,
             fan_out,
             handoff_limit,
-            ..
-        } = level;
-        let algorithm = algorithm_name(level.algorithm);
+        } = *level;
+        let algorithm = algorithm_name(algorithm);
         if *number == 1 {
             write!(
                 f,

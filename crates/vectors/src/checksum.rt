@@ -1,5 +1,5 @@
 // A checksum of numbers in their order.
-ghost use Rattle.std.specs.Prelude.{◌≡◌, ◌+◌, ◌*◌, ◌%◌, ◌^◌, fold};
+ghost use Rattle.std.specs.Prelude.{◌≡◌, ◌+◌, ◌*◌, ◌%◌, ◌^◌};
 
 pub fn mix(sum: u64, number: u64) -> u64
     ensures { result ≡ (sum * 31 + number) % 2 ^ 64 }
@@ -10,5 +10,5 @@ pub fn mix(sum: u64, number: u64) -> u64
 pub fn mix_all<T: Copy + Into<u64>>(sum: u64, numbers: &[T]) -> u64 {
     numbers
         .iter()
-        .fold(sum, |sum, number| mix(sum, (*number).into()))
+        .fold(sum, |sum, &number| mix(sum, number.into()))
 }

@@ -1,13 +1,16 @@
 // Bytes in hexadecimal, two digits to a byte, with blanks where one likes.
 // A star and a number after a byte repeat it: `0a 00*3` is `0a 00 00 00`.
-ghost use Rattle.std.specs.Prelude.{◌<◌, IfOk};
+ghost use Rattle.std.specs.Prelude.{◌≡◌, ◌<◌, ◌↔◌, IfOk, IsOk};
+ghost use Rattle.std.specs.Char.{digit_value};
 
 use crate::repeated::split_times;
 use anyhow::{Context, bail};
 use std::alloc::Global;
 
 fn digit(c: u8) -> anyhow::Result<u8>
-    ensures { IfOk result (λ d. d < 16) }
+    ensures found { IsOk result ↔ (digit_value c < 16) }
+    ensures value { IfOk result (λ d. d ≡ digit_value c) }
+    ensures small { IfOk result (λ d. d < 16) }
 {
     let digit = char::from(c).to_digit(16).context("no hexadecimal digit")?;
     Ok(digit as u8)
@@ -26,8 +29,8 @@ fn push_word(file: &mut Vec<u8>, word: &str) -> anyhow::Result<()> {
     for pair in digits.as_bytes().chunks(2) {
         file.push(byte_of(pair)?)?;
     }
-    let last = file.last().copied().context("no byte to repeat")?;
-    file.resize(file.len().saturating_sub(1).saturating_add(times), last)?;
+    let last = file.pop().context("no byte to repeat")?;
+    file.resize(file.len().saturating_add(times), last)?;
     Ok(())
 }
 

@@ -29,7 +29,8 @@ fn read(file: &[u8]) -> Result<Plan<'_>, FileFault> {
     Ok(plan)
 }
 
-fn judge_file(out: &mut impl Write, heap: Global, line: &str) -> anyhow::Result<()> {
+// What the file holds, or why it is refused, or that the writer makes another file of it.
+fn answer_file(out: &mut impl Write, heap: Global, line: &str) -> anyhow::Result<()> {
     let file = parse_line(heap, line)?;
     match read(file.as_slice()) {
         Ok(plan) if is_written_back(heap, &plan, file.as_slice())? => {
@@ -41,7 +42,8 @@ fn judge_file(out: &mut impl Write, heap: Global, line: &str) -> anyhow::Result<
     Ok(())
 }
 
-fn judge_plan(out: &mut impl Write, heap: Global, words: &str) -> anyhow::Result<()> {
+// How the plan is written, or why it is refused.
+fn answer_plan(out: &mut impl Write, heap: Global, words: &str) -> anyhow::Result<()> {
     let line = PlanLine::parse(heap, words)?;
     writeln!(out, "{}", write_line(heap, &line)?)?;
     Ok(())
@@ -53,8 +55,8 @@ fn run(rt: &HostRuntime) -> anyhow::Result<()> {
     for line in BufReader::new(heap, rt.stdin())?.lines(heap) {
         let line = line?;
         match line.as_str().strip_prefix("plan ") {
-            Some(words) => judge_plan(&mut out, heap, words)?,
-            None => judge_file(&mut out, heap, line.as_str())?,
+            Some(words) => answer_plan(&mut out, heap, words)?,
+            None => answer_file(&mut out, heap, line.as_str())?,
         }
     }
     out.flush()?;

@@ -31,18 +31,14 @@ impl fmt::Display for LevelLine {
     ghost output = { λ l. Some (level_text l.number l.level l.lanes) };
 
     fn fmt<W: fmt::Write>(&self, f: &mut fmt::Formatter<W>) -> fmt::Result {
-        let LevelLine {
-            number,
-            level,
-            lanes,
-        } = self;
+        let LevelLine { number, lanes, .. } = *self;
         let Level {
             algorithm,
             fan_out,
             handoff_limit,
-        } = *level;
+        } = self.level;
         let algorithm = algorithm_name(algorithm);
-        if *number == 1 {
+        if number == 1 {
             write!(
                 f,
                 "level {number} {algorithm} fan-out {fan_out} # lanes {lanes}"
@@ -66,12 +62,9 @@ impl fmt::Display for ScriptLine {
     ghost output = { λ l. Some (script_text l.worker l.script) };
 
     fn fmt<W: fmt::Write>(&self, f: &mut fmt::Formatter<W>) -> fmt::Result {
-        let Script { turns, rest, hold } = self.script;
-        write!(
-            f,
-            "script {} turns {turns} rest {rest} hold {hold}",
-            self.worker
-        )
+        let ScriptLine { worker, script } = self;
+        let Script { turns, rest, hold } = script;
+        write!(f, "script {worker} turns {turns} rest {rest} hold {hold}")
     }
 }
 

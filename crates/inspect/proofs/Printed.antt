@@ -2,7 +2,7 @@
 use Rattle.std.proofs.Common.{◌≡◌, true, ℕ, ◌+◌, ◌<◌, List, [], ◌∷◌, ◌++◌, length, get_or, drop, sym, refl, ap, ◌∙◌, append_assoc, append-nil}
 use Rattle.std.specs.declared.fmt.Formatter.{Formatter}
 use Rattle.std.specs.Fmt.{IsPlainFormatter, HasWritten}
-use Rattle.std.proofs.Output.{has_written_append, has_written_of_eq}
+use Rattle.std.proofs.Output.{writes_in_calls_nil, has_written_append, has_written_of_eq}
 use Rattle.std.proofs.lemmas.List.{at_drop_more}
 
 -- from f to g the front of `whole` was printed, and `rest` is what is left of it
@@ -13,6 +13,10 @@ pub record Printed {W : Type 0} (took : W → List ℕ → W → Type 0) (f : Fo
   pub split : front ++ rest ≡ whole
 
 module _ {W : Type 0} {took : W → List ℕ → W → Type 0} {f : Formatter W} {whole : List ℕ} where
+  pub nothing_yet : IsPlainFormatter f → Printed took f whole whole f
+  nothing_yet plain =
+      record { front = []; put = record { wrote = writes_in_calls_nil took _; plain = plain }; split = refl }
+
   pub one_more : {rest next : List ℕ} {g h : Formatter W} (item : List ℕ) → Printed took f whole rest g →
       rest ≡ item ++ next → (IsPlainFormatter g → true ≡ true → HasWritten took g item h) →
       Printed took f whole next h

@@ -3,8 +3,11 @@ use Rattle.std.specs.List.{flat_map}
 use Rattle.std.proofs.Output.{has_written_append}
 use Rattle.std.proofs.lemmas.List.{at_drop_all}
 use Rattle.inspect.specs.Text.{entry_text}
-use Rattle.inspect.proofs.Printed.{one_element, all}
+use Rattle.inspect.proofs.Printed.{nothing_yet, one_element, all}
 use Rattle.inspect.proofs.text.ScheduleLineDisplay.fmt.Goals as goal
+
+pub loop-entry-init : goal.loop-entry-init
+loop-entry-init g c plain = nothing_yet plain
 
 pub loop-entry-preserved : goal.loop-entry-preserved
 loop-entry-preserved g c plain =

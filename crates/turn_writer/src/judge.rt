@@ -11,7 +11,6 @@ ghost use Rattle.turn_writer.specs.Judgement.{past_entry, past_entries, past_ent
 ghost use Rattle.turn_writer.specs.Judgement.{past_header, file_length};
 ghost use Rattle.turn_writer.specs.Shape.{Word, Shape, Known};
 
-use crate::algorithm::algorithm_number;
 use crate::number_writer::number_size;
 use turn_file::fault::{FileFault, RecordFault};
 use turn_file::limits::{LARGEST_SETTING, LONGEST_FILE, MOST_LEVELS, MOST_WORKERS};
@@ -65,7 +64,7 @@ fn past_level(at: usize, rank: usize, parties: u32, level: &Level) -> Result<usi
     requires { at < 2 ^ 31 }
     ensures { result ≡ past_level rank parties level.now at }
 {
-    let at_fan_out = past(at, algorithm_number(level.algorithm));
+    let at_fan_out = past(at, u32::from(level.algorithm));
     let at_limit = past_fan_out(at_fan_out, parties, level.fan_out)?;
     past_handoff_limit(at_limit, rank, level.handoff_limit)
 }

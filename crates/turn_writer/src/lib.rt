@@ -1,7 +1,6 @@
 // Writes turn files.
 #![tactic(auto)]
 
-mod algorithm;
 mod judge;
 mod number_writer;
 pub mod plan_writer;

@@ -3,7 +3,6 @@ ghost use Rattle.std.specs.Prelude.{◌≡◌, ◌+◌, ◌≤◌, length};
 ghost use Rattle.turn_writer.specs.Laying.{laid};
 ghost use Rattle.turn_writer.specs.Records.{level_spelling, script_spelling, levels_spelling, scripts_spelling};
 
-use crate::algorithm::algorithm_number;
 use crate::number_writer::write_number;
 use turn_file::plan::{Level, Script};
 
@@ -13,7 +12,7 @@ fn write_level(out: &mut [u8], at: usize, rank: usize, level: &Level) -> usize
     ensures next { result ≡ at + length (level_spelling rank level.now) }
     ensures bytes { out.new ≡ laid out.old at (level_spelling rank level.now) }
 {
-    let at_fan_out = write_number(out, at, algorithm_number(level.algorithm));
+    let at_fan_out = write_number(out, at, u32::from(level.algorithm));
     let at_limit = write_number(out, at_fan_out, level.fan_out);
     if rank == 0 {
         at_limit

@@ -7,19 +7,18 @@ use Rattle.std.specs.List.{flat_map, AllByRecursion}
 use Rattle.turn_file.specs.declared.fault.FileFault.{FileFault}
 use Rattle.turn_file.specs.declared.fault.FileFault.TheVariants.{TooLong}
 use Rattle.turn_file.specs.declared.fault.RecordFault.{RecordFault}
-use Rattle.turn_file.specs.declared.fault.RecordFault.TheVariants.{LevelCount}
+use Rattle.turn_file.specs.declared.field.Field.TheVariants.{LevelCount}
 use Rattle.turn_file.specs.declared.plan.Level.{Level}
 use Rattle.turn_file.specs.declared.plan.Script.{Script}
 use Rattle.turn_file.specs.declared.step.Stage.TheVariants as stage
 use Rattle.turn_file.specs.Fault.{longest_file}
 use Rattle.turn_file.specs.Order.{InOrder, spelling}
 use Rattle.turn_file.specs.Plan.{PlanNumbers, used_levels, workers_of, used_scripts}
-use Rattle.turn_file.specs.Field.{bad_levels}
 use Rattle.turn_file.specs.Spelling.{spell}
 use Rattle.turn_file.proofs.Apart.{not_both}
 use Rattle.turn_file.proofs.Fields.{bind_ok}
 use Rattle.turn_file.proofs.Sound.{entries_short}
-use Rattle.turn_writer.specs.Judgement.{past, past_count, past_levels, past_scripts, past_header, past_entries}
+use Rattle.turn_writer.specs.Judgement.{past, past_field, past_levels, past_scripts, past_header, past_entries}
 use Rattle.turn_writer.specs.Judgement.{in_file_order, and_then, past_entry_count, within_file, past_schedule}
 use Rattle.turn_writer.specs.Judgement.{file_length}
 use Rattle.turn_writer.specs.Records.{level_records, script_records, records_from}
@@ -27,7 +26,7 @@ use Rattle.turn_writer.specs.Shape.{Shape}
 use Rattle.turn_writer.proofs.AcceptedRecords.{in_order_both, product, levels_reach, levels_come, workers_few}
 use Rattle.turn_writer.proofs.AcceptedRecords.{scripts_reach, scripts_come, entries_come}
 use Rattle.turn_writer.proofs.Parts.{sizes}
-use Rattle.turn_writer.proofs.Sizes.{number_past}
+use Rattle.turn_writer.proofs.Sizes.{field_past}
 
 -- what was judged first, and what came of it
 pub header_ok : (r : Result ℕ RecordFault) (next : ℕ → Result ℕ FileFault) (n : ℕ) → in_file_order r next ≡ Ok n →
@@ -71,17 +70,17 @@ schedule_accepted workers es at n is =
 
 parts_accepted : (count : ℕ) (ls : List Level) (ss : List Script) (es : List ℕ) (a b c n : ℕ) → length ls ≡ count →
     length ss ≡ product 1 ls →
-    past_count count 0 ≡ Ok a → past_levels 0 1 ls a ≡ Ok b → past_scripts ss b ≡ Ok c →
+    past_field LevelCount count 0 ≡ Ok a → past_levels 0 1 ls a ≡ Ok b → past_scripts ss b ≡ Ok c →
     past_schedule (product 1 ls) es c ≡ Ok n → Accepted count ls ss es n
 parts_accepted count [] ss es a b c n all_levels all_scripts first second third last =
-    let k = number_past (bad_levels count) (LevelCount 0) count 0 a first in
+    let k = field_past LevelCount count 0 a first in
     let fits = k.0 in
     let some : 1 ≤ count = grind (arith, nat_tests) in
     absurd (omega arith)
 parts_accepted count (l ∷ ls) [] es a b c n all_levels all_scripts first second third last =
     let w = workers_few 0 1 (l ∷ ls) a b (omega arith) (omega arith) second in absurd (omega (arith, w.0))
 parts_accepted count (l ∷ ls) (s ∷ ss) es a b c n all_levels all_scripts first second third last =
-    let k = number_past (bad_levels count) (LevelCount 0) count 0 a first in
+    let k = field_past LevelCount count 0 a first in
     let fits = k.0 in
     let some : 1 ≤ count = grind (arith, nat_tests) in
     let most : count ≤ 4 = grind (arith, nat_tests) in
@@ -114,10 +113,10 @@ parts_accepted count (l ∷ ls) (s ∷ ss) es a b c n all_levels all_scripts fir
     }
 
 -- how many levels a plan uses, where their count is not refused
-pub count_used : (p : PlanNumbers) (a : ℕ) → Shape p → past_count p.count 0 ≡ Ok a →
+pub count_used : (p : PlanNumbers) (a : ℕ) → Shape p → past_field LevelCount p.count 0 ≡ Ok a →
     (length (used_levels p) ≡ p.count) × (1 ≤ p.count) × (p.count ≤ 4) × (a ≡ past p.count 0)
 count_used p a shape first =
-    let k = number_past (bad_levels p.count) (LevelCount 0) p.count 0 a first in
+    let k = field_past LevelCount p.count 0 a first in
     let fits = k.0 in
     let some : 1 ≤ p.count = grind (arith, nat_tests) in
     let most : p.count ≤ 4 = grind (arith, nat_tests) in
@@ -136,7 +135,7 @@ pub plan_accepted : (p : PlanNumbers) (n : ℕ) → Shape p → file_length p �
     Accepted p.count (used_levels p) (used_scripts p) p.entries n
 plan_accepted p n shape is =
     let h = header_ok (past_header p) _ n is in
-    let a = bind_ok (past_count p.count 0) _ h.0 h.1 in
+    let a = bind_ok (past_field LevelCount p.count 0) _ h.0 h.1 in
     let b = bind_ok (past_levels 0 1 (used_levels p) a.0) _ h.0 a.2 in
     let counted = count_used p a.0 shape a.1 in
     let used = used_sizes p a.0 b.0 shape b.1 in

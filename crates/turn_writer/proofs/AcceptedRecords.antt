@@ -3,7 +3,7 @@ use Rattle.std.proofs.Common.{◌≡◌, ℕ, ◌+◌, ◌*◌, ◌<◌, ◌≤�
 use native.Mathlib.Nat.{one-le-mul}
 use Rattle.std.proofs.lemmas.Bool.Decides.{nat_tests, eqb_tells}
 use Rattle.std.specs.List.{flat_map, AllByRecursion}
-use Rattle.turn_file.specs.declared.fault.RecordFault.TheVariants.{HandoffLimit, ScriptNumber, Entry}
+use Rattle.turn_file.specs.declared.field.Field.TheVariants.{FanOut, HandoffLimit, ScriptNumber, Entry}
 use Rattle.turn_file.specs.declared.plan.Level.{Level}
 use Rattle.turn_file.specs.declared.plan.Script.{Script}
 use Rattle.turn_file.specs.declared.step.Stage.{Stage}
@@ -12,14 +12,13 @@ use Rattle.turn_file.specs.Plan.{lanes_below}
 use Rattle.turn_file.specs.Order.{ScriptFits, Comes, InOrder}
 use Rattle.turn_file.specs.Reading.{Item, level, after_level, after_script}
 use Rattle.turn_file.specs.Algorithm.{algorithm_number}
-use Rattle.turn_file.specs.Field.{bad_fan_out, bad_limit, bad_script_number, bad_entry}
 use Rattle.turn_file.specs.Spelling.{spell}
 use Rattle.turn_file.proofs.Fields.{bind_ok, fan_out_fits}
-use Rattle.turn_writer.specs.Judgement.{past, past_fan_out, past_limit, past_level, past_levels}
-use Rattle.turn_writer.specs.Judgement.{past_script_number, past_script, past_scripts, past_entry, past_entries}
+use Rattle.turn_writer.specs.Judgement.{past, past_field, past_limit, past_level, past_levels}
+use Rattle.turn_writer.specs.Judgement.{past_script, past_scripts, past_entries}
 use Rattle.turn_writer.specs.Records.{used_level, level_records, script_records, level_spelling, script_spelling}
 use Rattle.turn_writer.specs.Records.{levels_spelling, scripts_spelling}
-use Rattle.turn_writer.proofs.Sizes.{number_past}
+use Rattle.turn_writer.proofs.Sizes.{field_past}
 use Rattle.turn_writer.proofs.Stages.{after_level_more, after_level_last, after_script_more, after_script_last}
 
 pub in_order_both : (from : Stage) (xs ys : List Item) (mid to : Stage) → InOrder from xs mid → InOrder mid ys to →
@@ -39,7 +38,7 @@ limit_fits rank n at next is =
           let here : at ≡ next = cc in
           simp t.0 (inl (t.1, refl), omega arith)
       | inr t ↦
-          let k = number_past (bad_limit n) (HandoffLimit at) n at next (simp t.0 at is) in
+          let k = field_past HandoffLimit n at next (simp t.0 at is) in
           let fits = k.0 in
           let some : 1 ≤ n = grind (arith, nat_tests) in
           let few : n ≤ 65535 = grind (arith, nat_tests) in
@@ -53,8 +52,8 @@ pub level_comes : (rank count parties : ℕ) (l : Level) (at next : ℕ) → pas
     × (next ≡ at + length (level_spelling rank l)) × (1 ≤ l.fan_out) × (parties * l.fan_out ≤ 64)
 level_comes rank count parties l at next is =
     let a : List ℕ = spell (algorithm_number l.algorithm) in
-    let b = bind_ok (past_fan_out parties l.fan_out (past (algorithm_number l.algorithm) at)) _ next is in
-    let f = number_past (bad_fan_out parties l.fan_out) _ l.fan_out _ b.0 b.1 in
+    let b = bind_ok (past_field (FanOut parties) l.fan_out (past (algorithm_number l.algorithm) at)) _ next is in
+    let f = field_past (FanOut parties) l.fan_out _ b.0 b.1 in
     let fits = fan_out_fits parties l.fan_out f.0 in
     let h = limit_fits rank l.handoff_limit b.0 next b.2 in
     let behind : List ℕ = cond (eqb rank 0) [] (spell (cond (eqb rank 0) 0 l.handoff_limit)) in (
@@ -122,9 +121,9 @@ workers_few rank parties (l ∷ ls) at next some few is =
     let rest = workers_few (rank + 1) (parties * l.fan_out) ls b.0 next (one-le-mul some k.2) k.3 b.2 in
     (rest.0, rest.1, ap (λ n. fold lanes_below n ls) now ∙ rest.2)
 
-script_number_fits : (n at next : ℕ) → past_script_number n at ≡ Ok next → (n ≤ 65535) × (next ≡ past n at)
+script_number_fits : (n at next : ℕ) → past_field ScriptNumber n at ≡ Ok next → (n ≤ 65535) × (next ≡ past n at)
 script_number_fits n at next is =
-    let k = number_past (bad_script_number n) (ScriptNumber at) n at next is in
+    let k = field_past ScriptNumber n at next is in
     let fits = k.0 in
     (grind (arith, nat_tests), k.1)
 
@@ -132,8 +131,8 @@ script_number_fits n at next is =
 pub script_fits : (s : Script) (at next : ℕ) → past_script s at ≡ Ok next → ScriptFits s
     × (next ≡ at + length (script_spelling s))
 script_fits s at next is =
-    let t = bind_ok (past_script_number s.turns at) _ next is in
-    let r = bind_ok (past_script_number s.rest t.0) _ next t.2 in
+    let t = bind_ok (past_field ScriptNumber s.turns at) _ next is in
+    let r = bind_ok (past_field ScriptNumber s.rest t.0) _ next t.2 in
     let turns = script_number_fits s.turns at t.0 t.1 in
     let rest = script_number_fits s.rest t.0 r.0 r.1 in
     let hold = script_number_fits s.hold r.0 next r.2 in (
@@ -186,8 +185,8 @@ pub entries_come : (workers : ℕ) (es : List ℕ) (at next : ℕ) → past_entr
     AllByRecursion (λ e. e < workers) es × (next ≡ at + length (flat_map spell es))
 entries_come workers [] at next is = let done : at ≡ next = cc in (tt, omega arith)
 entries_come workers (e ∷ es) at next is =
-    let b = bind_ok (past_entry workers e at) _ next is in
-    let k = number_past (bad_entry workers e) (Entry at) e at b.0 b.1 in
+    let b = bind_ok (past_field (Entry workers) e at) _ next is in
+    let k = field_past (Entry workers) e at b.0 b.1 in
     let fits = k.0 in
     let rest = entries_come workers es b.0 next b.2 in (
       (grind (arith, nat_tests), rest.0),

@@ -5,6 +5,7 @@ use Rattle.std.specs.List.{flat_map, AllByRecursion}
 use Rattle.turn_file.specs.declared.fault.FileFault.{FileFault}
 use Rattle.turn_file.specs.declared.fault.FileFault.TheVariants.{TooLong}
 use Rattle.turn_file.specs.declared.fault.RecordFault.{RecordFault}
+use Rattle.turn_file.specs.declared.field.Field.TheVariants.{LevelCount}
 use Rattle.turn_file.specs.declared.step.Stage.TheVariants as stage
 use Rattle.turn_file.specs.Fault.{in_file, longest_file}
 use Rattle.turn_file.specs.Plan.{PlanNumbers, used_levels, workers_of, used_scripts}
@@ -13,7 +14,7 @@ use Rattle.turn_file.specs.Spelling.{spell_in, spell}
 use Rattle.turn_file.proofs.Apart.{not_both}
 use Rattle.turn_file.proofs.Refused.{bind_err}
 use Rattle.turn_file.proofs.Fields.{bind_ok}
-use Rattle.turn_writer.specs.Judgement.{past, past_count, past_levels, past_scripts, past_header, past_entries}
+use Rattle.turn_writer.specs.Judgement.{past, past_field, past_levels, past_scripts, past_header, past_entries}
 use Rattle.turn_writer.specs.Judgement.{in_file_order, and_then, within_file, past_schedule}
 use Rattle.turn_writer.specs.Judgement.{file_length}
 use Rattle.turn_writer.specs.Records.{plan_spelling, levels_spelling, scripts_spelling}
@@ -35,7 +36,7 @@ header_stops : (p : PlanNumbers) (f : RecordFault) → Shape p → past_header p
     Stopped (plan_spelling p) 0 stage.Levels f
 header_stops p f shape is =
     let s = standing p.count (used_levels p) (used_scripts p) p.entries in
-    elim (bind_err (past_count p.count 0) _ f is) [
+    elim (bind_err (past_field LevelCount p.count 0) _ f is) [
       | inl e ↦ count_stops s f shape.count e
       | inr a ↦
           let counted = count_used p a.0 shape a.1 in
@@ -111,7 +112,7 @@ record Header (p : PlanNumbers) (at : ℕ) : Type 0 where
 
 header : (p : PlanNumbers) (at : ℕ) → Shape p → past_header p ≡ Ok at → Header p at
 header p at shape is =
-    let a = bind_ok (past_count p.count 0) _ at is in
+    let a = bind_ok (past_field LevelCount p.count 0) _ at is in
     let counted = count_used p a.0 shape a.1 in
     let from_there = ap (λ n. bind (past_levels 0 1 (used_levels p) n) (λ b. past_scripts (used_scripts p) b))
     (sym counted.3) ∙ a.2 in

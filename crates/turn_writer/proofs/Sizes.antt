@@ -1,19 +1,18 @@
 -- How far a number, a level and a script reach.
-use Rattle.std.proofs.Common.{◌≡◌, ℕ, zero, suc, ◌+◌, ◌*◌, ◌/◌, ◌%◌, ◌≤◌, Bool, true, false, cond, eqb, ltb, List, [], ◌∷◌, length, Ok, Result, sym, refl, arith}
+use Rattle.std.proofs.Common.{◌≡◌, ℕ, zero, suc, ◌+◌, ◌*◌, ◌/◌, ◌%◌, ◌≤◌, Bool, true, false, cond, eqb, ltb, List, [], ◌∷◌, length, Ok, Err, sym, refl, arith}
 use Rattle.std.proofs.lemmas.List.{length-take}
-use Rattle.turn_file.specs.declared.fault.RecordFault.{RecordFault}
-use Rattle.turn_file.specs.declared.fault.RecordFault.TheVariants.{LevelCount, HandoffLimit, ScriptNumber, Entry}
+use Rattle.turn_file.specs.declared.field.Field.{Field}
+use Rattle.turn_file.specs.declared.field.Field.TheVariants.{LevelCount, FanOut, HandoffLimit, ScriptNumber}
 use Rattle.turn_file.specs.declared.plan.Level.{Level}
 use Rattle.turn_file.specs.declared.plan.Script.{Script}
 use Rattle.turn_file.specs.Plan.{PlanNumbers, used_levels, workers_of, used_scripts}
 use Rattle.turn_file.specs.Algorithm.{algorithm_number}
-use Rattle.turn_file.specs.Field.{bad_levels, bad_fan_out, bad_limit, bad_script_number, bad_entry}
+use Rattle.turn_file.specs.Field.{field_refuses, field_fault}
 use Rattle.turn_file.specs.Spelling.{spell_in, spell}
 use Rattle.turn_file.proofs.Apart.{not_both}
 use Rattle.turn_file.proofs.Fields.{bind_ok, fan_out_fits}
-use Rattle.turn_writer.specs.Judgement.{past, past_number, past_fan_out, past_limit, past_level, past_script_number}
-use Rattle.turn_writer.specs.Judgement.{past_script, past_entry, past_count, past_levels, past_scripts}
-use Rattle.turn_writer.specs.Judgement.{past_header}
+use Rattle.turn_writer.specs.Judgement.{past, past_field, past_limit, past_level, past_levels}
+use Rattle.turn_writer.specs.Judgement.{past_script, past_scripts, past_header}
 
 one_more : (last : Bool) (left v : ℕ) (rest : List ℕ) → length rest ≤ left →
     length (cond last (v ∷ []) ((128 + v % 128) ∷ rest)) ≤ suc left
@@ -29,27 +28,32 @@ pub spell_few : (v : ℕ) → length (spell v) ≤ 5
 spell_few v = groups_few 5 v
 
 -- a number that was not refused
-pub number_past : (bad : Bool) (f : RecordFault) (n at next : ℕ) → past_number bad f n at ≡ Ok next → (bad ≡ false)
-    × (next ≡ past n at)
-number_past true f n at next e = absurd (not_both (sym e))
-number_past false f n at next e = (refl, cc)
+pub field_past : (field : Field) (n at next : ℕ) → past_field field n at ≡ Ok next →
+    (field_refuses field n ≡ false) × (next ≡ past n at)
+field_past field n at next e = by_test (field_refuses field n) e
+  where
+    by_test : (bad : Bool) → cond bad (Err (field_fault field at)) (Ok (past n at)) ≡ Ok next → (bad ≡ false)
+        × (next ≡ past n at)
+    by_test true is = absurd (not_both (sym is))
+    by_test false is = (refl, cc)
+
+-- it takes at most five bytes
+pub field_near : (field : Field) (n at next : ℕ) → past_field field n at ≡ Ok next → next ≤ at + 5
+field_near field n at next is = omega (arith, (field_past field n at next is).1, spell_few n)
 
 pub limit_past : (rank n at next : ℕ) → past_limit rank n at ≡ Ok next → next ≤ at + 5
 limit_past rank n at next e = by_rank (eqb rank 0) e
   where
-    by_rank : (top : Bool) →
-        ◌≡◌ {A = Result ℕ RecordFault} (cond top (Ok at) (past_number (bad_limit n) (HandoffLimit at) n at)) (Ok next) →
-        next ≤ at + 5
+    by_rank : (top : Bool) → cond top (Ok at) (past_field HandoffLimit n at) ≡ Ok next → next ≤ at + 5
     by_rank true is = let same : at ≡ next = cc in omega arith
-    by_rank false is =
-        let k = number_past (bad_limit n) (HandoffLimit at) n at next is in omega (arith, k.1, spell_few n)
+    by_rank false is = field_near HandoffLimit n at next is
 
 -- a level that was not refused
 pub level_past : (rank parties : ℕ) (l : Level) (at next : ℕ) → past_level rank parties l at ≡ Ok next →
     (next ≤ at + 15) × (1 ≤ l.fan_out) × (parties * l.fan_out ≤ 64)
 level_past rank parties l at next e =
-    let b = bind_ok (past_fan_out parties l.fan_out (past (algorithm_number l.algorithm) at)) _ next e in
-    let f = number_past (bad_fan_out parties l.fan_out) _ l.fan_out _ b.0 b.1 in
+    let b = bind_ok (past_field (FanOut parties) l.fan_out (past (algorithm_number l.algorithm) at)) _ next e in
+    let f = field_past (FanOut parties) l.fan_out _ b.0 b.1 in
     let fits = fan_out_fits parties l.fan_out f.0 in
     let h = limit_past rank l.handoff_limit b.0 next b.2 in (
       omega (arith, f.1, h, spell_few (algorithm_number l.algorithm), spell_few l.fan_out),
@@ -57,28 +61,16 @@ level_past rank parties l at next e =
       fits.1,
     )
 
-script_number_past : (n at next : ℕ) → past_script_number n at ≡ Ok next → next ≤ at + 5
-script_number_past n at next e =
-    let k = number_past (bad_script_number n) (ScriptNumber at) n at next e in omega (arith, k.1, spell_few n)
-
 pub script_past : (s : Script) (at next : ℕ) → past_script s at ≡ Ok next → next ≤ at + 15
 script_past s at next e =
-    let t = bind_ok (past_script_number s.turns at) _ next e in
-    let r = bind_ok (past_script_number s.rest t.0) _ next t.2 in
+    let t = bind_ok (past_field ScriptNumber s.turns at) _ next e in
+    let r = bind_ok (past_field ScriptNumber s.rest t.0) _ next t.2 in
     omega (
       arith,
-      script_number_past s.turns at t.0 t.1,
-      script_number_past s.rest t.0 r.0 r.1,
-      script_number_past s.hold r.0 next r.2,
+      field_near ScriptNumber s.turns at t.0 t.1,
+      field_near ScriptNumber s.rest t.0 r.0 r.1,
+      field_near ScriptNumber s.hold r.0 next r.2,
     )
-
-pub entry_past : (workers e at next : ℕ) → past_entry workers e at ≡ Ok next → next ≤ at + 5
-entry_past workers e at next is =
-    let k = number_past (bad_entry workers e) (Entry at) e at next is in omega (arith, k.1, spell_few e)
-
-pub count_past : (n at next : ℕ) → past_count n at ≡ Ok next → next ≤ at + 5
-count_past n at next is =
-    let k = number_past (bad_levels n) (LevelCount at) n at next is in omega (arith, k.1, spell_few n)
 
 pub levels_past : (rank parties : ℕ) (ls : List Level) (at next : ℕ) → past_levels rank parties ls at ≡ Ok next →
     next ≤ at + 15 * length ls
@@ -98,13 +90,13 @@ scripts_past (s ∷ ss) at next is =
 pub header_past : (p : PlanNumbers) (next : ℕ) → length p.levels ≡ 4 → length p.scripts ≡ 64 →
     past_header p ≡ Ok next → next ≤ 1025
 header_past p next four sixty_four is =
-    let a = bind_ok (past_count p.count 0) _ next is in
+    let a = bind_ok (past_field LevelCount p.count 0) _ next is in
     let b = bind_ok (past_levels 0 1 (used_levels p) a.0) _ next a.2 in
     omega (
       arith,
       four,
       sixty_four,
-      count_past p.count 0 a.0 a.1,
+      field_near LevelCount p.count 0 a.0 a.1,
       levels_past 0 1 (used_levels p) a.0 b.0 b.1,
       scripts_past (used_scripts p) b.0 next b.2,
       length-take p.count p.levels,

@@ -2,18 +2,16 @@
 use Rattle.std.proofs.Common.{◌≡◌, ℕ, ◌≤◌, List, [], ◌∷◌, ◌++◌, length, Ok, Err, refl, ap, subst, arith}
 use Rattle.std.specs.List.{flat_map, AllByRecursion}
 use Rattle.turn_file.specs.declared.fault.RecordFault.{RecordFault}
-use Rattle.turn_file.specs.declared.fault.RecordFault.TheVariants.{LevelCount}
-use Rattle.turn_file.specs.declared.fault.RecordKind.TheVariants as kind
+use Rattle.turn_file.specs.declared.field.Field.TheVariants.{LevelCount}
 use Rattle.turn_file.specs.declared.plan.Level.{Level}
 use Rattle.turn_file.specs.declared.plan.Script.{Script}
 use Rattle.turn_file.specs.declared.step.Stage.TheVariants as stage
 use Rattle.turn_file.specs.Order.{spelling}
 use Rattle.turn_file.specs.Reading.{levels, in_order}
-use Rattle.turn_file.specs.Field.{bad_levels}
 use Rattle.turn_file.specs.Spelling.{spell, Stands}
 use Rattle.turn_file.proofs.Orders.{stands_whole}
 use Rattle.turn_file.proofs.Spelled.{stands_split}
-use Rattle.turn_writer.specs.Judgement.{past, past_count, past_levels, past_scripts, past_entries}
+use Rattle.turn_writer.specs.Judgement.{past, past_field, past_levels, past_scripts, past_entries}
 use Rattle.turn_writer.specs.Records.{records_from, levels_spelling, scripts_spelling}
 use Rattle.turn_writer.specs.Records.{level_records, script_records}
 use Rattle.turn_writer.specs.Shape.{Word, LevelWords, ScriptWords}
@@ -51,11 +49,10 @@ standing count ls ss es =
 
 module _ {file : List ℕ} {count : ℕ} {ls : List Level} {ss : List Script} {es : List ℕ}
     (s : Standing file count ls ss es) (f : RecordFault) where
-  pub count_stops : Word count → past_count count 0 ≡ Err f → Stopped file 0 stage.Levels f
+  pub count_stops : Word count → past_field LevelCount count 0 ≡ Err f → Stopped file 0 stage.Levels f
   count_stops small is =
       stopped_here file 0 stage.Levels f
-      (ap in_order (stop _ (field_refused file kind.Levels bad_levels (LevelCount 0) count 0 _ f small
-      s.count_stands is)))
+      (ap in_order (stop _ (field_refused file LevelCount count 0 _ f small s.count_stands is)))
 
   pub behind_count : 1 ≤ count → count ≤ 4 → Stopped file (past count 0) (stage.Level 0 count 1) f →
       Stopped file 0 stage.Levels f

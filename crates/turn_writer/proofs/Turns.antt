@@ -6,7 +6,8 @@ use Rattle.turn_file.specs.declared.plan.Level.{Level}
 use Rattle.turn_file.specs.declared.plan.Script.{Script}
 use Rattle.turn_file.specs.Plan.{no_level, no_script}
 use Rattle.turn_file.specs.Record.{bind}
-use Rattle.turn_writer.specs.Judgement.{past_level, past_levels, past_script, past_scripts, past_entry, past_entries}
+use Rattle.turn_file.specs.declared.field.Field.TheVariants.{Entry}
+use Rattle.turn_writer.specs.Judgement.{past_field, past_level, past_levels, past_script, past_scripts, past_entries}
 
 abbrev pub after_level : ℕ → ℕ → List Level → Result ℕ RecordFault → Result ℕ RecordFault
 after_level rank parties ls r =
@@ -28,5 +29,5 @@ abbrev pub after_entry : ℕ → ℕ → List ℕ → Result ℕ RecordFault →
 after_entry i workers es r = bind r (λ next. past_entries workers (drop (i + 1) es) next)
 
 pub entries_more : (i workers : ℕ) (es : List ℕ) (at : ℕ) → i < length es →
-    past_entries workers (drop i es) at ≡ after_entry i workers es (past_entry workers (get_or es i 0) at)
+    past_entries workers (drop i es) at ≡ after_entry i workers es (past_field (Entry workers) (get_or es i 0) at)
 entries_more i workers es at more = at_drop_more (λ left. past_entries workers left at) es i 0 more

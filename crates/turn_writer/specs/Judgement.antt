@@ -1,42 +1,35 @@
 -- A plan is judged number by number, in the order of a file. The place of a number is where it would stand.
-use Rattle.std.specs.Prelude.{ℕ, ◌+◌, ◌*◌, Bool, cond, List, [], ◌∷◌, length, Ok, Err, Result, ◌==◌, nat_lt}
+use Rattle.std.specs.Prelude.{ℕ, ◌+◌, ◌*◌, cond, List, [], ◌∷◌, length, Ok, Err, Result, ◌==◌, nat_lt}
 use Rattle.turn_file.specs.declared.fault.FileFault.{FileFault}
 use Rattle.turn_file.specs.declared.fault.FileFault.TheVariants.{TooLong}
 use Rattle.turn_file.specs.declared.fault.RecordFault.{RecordFault}
-use Rattle.turn_file.specs.declared.fault.RecordFault.TheVariants.{LevelCount, FanOut, HandoffLimit}
-use Rattle.turn_file.specs.declared.fault.RecordFault.TheVariants.{ScriptNumber, Entry}
+use Rattle.turn_file.specs.declared.field.Field.{Field}
+use Rattle.turn_file.specs.declared.field.Field.TheVariants.{LevelCount, FanOut, HandoffLimit, ScriptNumber, Entry}
 use Rattle.turn_file.specs.declared.plan.Level.{Level}
 use Rattle.turn_file.specs.declared.plan.Script.{Script}
 use Rattle.turn_file.specs.Fault.{in_file, longest_file}
 use Rattle.turn_file.specs.Plan.{PlanNumbers, used_levels, workers_of, used_scripts}
 use Rattle.turn_file.specs.Algorithm.{algorithm_number}
-use Rattle.turn_file.specs.Field.{bad_levels, bad_fan_out, bad_limit}
+use Rattle.turn_file.specs.Field.{field_refuses, field_fault}
 use Rattle.turn_file.specs.Record.{bind}
-use Rattle.turn_file.specs.Field.{bad_script_number, bad_entry}
 use Rattle.turn_file.specs.Spelling.{spell}
 
 -- the place after a number that stands at `at`
 abbrev pub past : ℕ → ℕ → ℕ
 past n at = at + length (spell n)
 
--- a number is refused if its value is bad; else the place after it
-abbrev pub past_number : Bool → RecordFault → ℕ → ℕ → Result ℕ RecordFault
-past_number bad f n at = cond bad (Err f) (Ok (past n at))
-
-abbrev pub past_count : ℕ → ℕ → Result ℕ RecordFault
-past_count n at = past_number (bad_levels n) (LevelCount at) n at
-
-abbrev pub past_fan_out : ℕ → ℕ → ℕ → Result ℕ RecordFault
-past_fan_out parties n at = past_number (bad_fan_out parties n) (FanOut at) n at
+-- a number that its field refuses; else the place after it
+abbrev pub past_field : Field → ℕ → ℕ → Result ℕ RecordFault
+past_field field n at = cond (field_refuses field n) (Err (field_fault field at)) (Ok (past n at))
 
 -- the top level has no handoff limit
 abbrev pub past_limit : ℕ → ℕ → ℕ → Result ℕ RecordFault
-past_limit rank n at = cond (rank == 0) (Ok at) (past_number (bad_limit n) (HandoffLimit at) n at)
+past_limit rank n at = cond (rank == 0) (Ok at) (past_field HandoffLimit n at)
 
 -- a level with so many levels above it, which have so many parties
 abbrev pub past_level : ℕ → ℕ → Level → ℕ → Result ℕ RecordFault
 past_level rank parties l at =
-    bind (past_fan_out parties l.fan_out (past (algorithm_number l.algorithm) at)) (λ next.
+    bind (past_field (FanOut parties) l.fan_out (past (algorithm_number l.algorithm) at)) (λ next.
     past_limit rank l.handoff_limit next)
 
 abbrev pub past_levels : ℕ → ℕ → List Level → ℕ → Result ℕ RecordFault
@@ -44,30 +37,24 @@ past_levels rank parties [] at = Ok at
 past_levels rank parties (l ∷ ls) at =
     bind (past_level rank parties l at) (λ next. past_levels (rank + 1) (parties * l.fan_out) ls next)
 
-abbrev pub past_script_number : ℕ → ℕ → Result ℕ RecordFault
-past_script_number n at = past_number (bad_script_number n) (ScriptNumber at) n at
-
 abbrev pub past_script : Script → ℕ → Result ℕ RecordFault
 past_script s at =
-    bind (past_script_number s.turns at) (λ at_rest.
-    bind (past_script_number s.rest at_rest) (λ at_hold.
-    past_script_number s.hold at_hold))
+    bind (past_field ScriptNumber s.turns at) (λ at_rest.
+    bind (past_field ScriptNumber s.rest at_rest) (λ at_hold.
+    past_field ScriptNumber s.hold at_hold))
 
 abbrev pub past_scripts : List Script → ℕ → Result ℕ RecordFault
 past_scripts [] at = Ok at
 past_scripts (s ∷ ss) at = bind (past_script s at) (λ next. past_scripts ss next)
 
-abbrev pub past_entry : ℕ → ℕ → ℕ → Result ℕ RecordFault
-past_entry workers e at = past_number (bad_entry workers e) (Entry at) e at
-
 abbrev pub past_entries : ℕ → List ℕ → ℕ → Result ℕ RecordFault
 past_entries workers [] at = Ok at
-past_entries workers (e ∷ es) at = bind (past_entry workers e at) (λ next. past_entries workers es next)
+past_entries workers (e ∷ es) at = bind (past_field (Entry workers) e at) (λ next. past_entries workers es next)
 
 -- all that stands before the count of entries
 abbrev pub past_header : PlanNumbers → Result ℕ RecordFault
 past_header p =
-    bind (past_count p.count 0) (λ at_levels.
+    bind (past_field LevelCount p.count 0) (λ at_levels.
     bind (past_levels 0 1 (used_levels p) at_levels) (λ at_scripts.
     past_scripts (used_scripts p) at_scripts))
 

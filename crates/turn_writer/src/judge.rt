@@ -5,15 +5,15 @@ ghost use Rattle.std.specs.Prelude.{◌≡◌, ◌^◌, ◌<◌, ◌≤◌, leng
 ghost use Rattle.std.specs.List.{AllByRecursion};
 ghost use Rattle.turn_file.specs.Fault.{longest_file};
 ghost use Rattle.turn_file.specs.Plan.{plan_numbers};
-ghost use Rattle.turn_writer.specs.Judgement.{past, past_count, past_fan_out, past_limit, past_level, past_levels};
-ghost use Rattle.turn_writer.specs.Judgement.{past_script_number, past_script, past_scripts};
-ghost use Rattle.turn_writer.specs.Judgement.{past_entry, past_entries, past_entry_count, past_schedule};
+ghost use Rattle.turn_writer.specs.Judgement.{past, past_field, past_limit, past_level, past_levels, past_script};
+ghost use Rattle.turn_writer.specs.Judgement.{past_scripts, past_entries, past_entry_count, past_schedule};
 ghost use Rattle.turn_writer.specs.Judgement.{past_header, file_length};
 ghost use Rattle.turn_writer.specs.Shape.{Word, Shape, Known};
 
 use crate::number_writer::number_size;
 use turn_file::fault::{FileFault, RecordFault};
-use turn_file::limits::{LARGEST_SETTING, LONGEST_FILE, MOST_LEVELS, MOST_WORKERS};
+use turn_file::field::Field;
+use turn_file::limits::LONGEST_FILE;
 use turn_file::plan::{Level, Plan, Script};
 
 // The place after a number at `at`.
@@ -24,25 +24,13 @@ fn past(at: usize, value: u32) -> usize
     at + number_size(value)
 }
 
-fn past_count(at: usize, count: u32) -> Result<usize, RecordFault>
+// The place after a number whose value fits.
+fn past_field(at: usize, field: Field, value: u32) -> Result<usize, RecordFault>
     requires { at < 2 ^ 32 }
-    ensures { result ≡ past_count count at }
+    ensures { result ≡ past_field field value at }
 {
-    if count < 1 || count > MOST_LEVELS {
-        return Err(RecordFault::LevelCount { place: at });
-    }
-    Ok(past(at, count))
-}
-
-// The members of each lane, where the levels above have `parties` parties.
-fn past_fan_out(at: usize, parties: u32, fan_out: u32) -> Result<usize, RecordFault>
-    requires { at < 2 ^ 32 }
-    ensures { result ≡ past_fan_out parties fan_out at }
-{
-    if fan_out < 1 || u64::from(parties) * u64::from(fan_out) > u64::from(MOST_WORKERS) {
-        return Err(RecordFault::FanOut { place: at });
-    }
-    Ok(past(at, fan_out))
+    field.judge(value, at)?;
+    Ok(past(at, value))
 }
 
 // The top level, which has no level above it, has no handoff limit.
@@ -53,10 +41,7 @@ fn past_handoff_limit(at: usize, rank: usize, limit: u32) -> Result<usize, Recor
     if rank == 0 {
         return Ok(at);
     }
-    if limit < 1 || limit > LARGEST_SETTING {
-        return Err(RecordFault::HandoffLimit { place: at });
-    }
-    Ok(past(at, limit))
+    past_field(at, Field::HandoffLimit, limit)
 }
 
 // A level with `rank` levels above it, which have `parties` parties.
@@ -65,7 +50,7 @@ fn past_level(at: usize, rank: usize, parties: u32, level: &Level) -> Result<usi
     ensures { result ≡ past_level rank parties level.now at }
 {
     let at_fan_out = past(at, u32::from(level.algorithm));
-    let at_limit = past_fan_out(at_fan_out, parties, level.fan_out)?;
+    let at_limit = past_field(at_fan_out, Field::FanOut { parties }, level.fan_out)?;
     past_handoff_limit(at_limit, rank, level.handoff_limit)
 }
 
@@ -82,23 +67,13 @@ fn past_levels(at: usize, levels: &[Level]) -> Result<usize, RecordFault>
     Ok(next)
 }
 
-fn past_script_number(at: usize, number: u32) -> Result<usize, RecordFault>
-    requires { at < 2 ^ 32 }
-    ensures { result ≡ past_script_number number at }
-{
-    if number > LARGEST_SETTING {
-        return Err(RecordFault::ScriptNumber { place: at });
-    }
-    Ok(past(at, number))
-}
-
 fn past_script(at: usize, script: &Script) -> Result<usize, RecordFault>
     requires { at < 2 ^ 31 }
     ensures { result ≡ past_script script.now at }
 {
-    let at_rest = past_script_number(at, script.turns)?;
-    let at_hold = past_script_number(at_rest, script.rest)?;
-    past_script_number(at_hold, script.hold)
+    let at_rest = past_field(at, Field::ScriptNumber, script.turns)?;
+    let at_hold = past_field(at_rest, Field::ScriptNumber, script.rest)?;
+    past_field(at_hold, Field::ScriptNumber, script.hold)
 }
 
 fn past_scripts(at: usize, scripts: &[Script]) -> Result<usize, RecordFault>
@@ -112,25 +87,14 @@ fn past_scripts(at: usize, scripts: &[Script]) -> Result<usize, RecordFault>
     Ok(next)
 }
 
-// An entry of the schedule: a worker.
-fn past_entry(at: usize, workers: u32, entry: u8) -> Result<usize, RecordFault>
-    requires { at < 2 ^ 32 }
-    ensures { result ≡ past_entry workers entry at }
-{
-    let entry = u32::from(entry);
-    if entry >= workers {
-        return Err(RecordFault::Entry { place: at });
-    }
-    Ok(past(at, entry))
-}
-
+// Each entry is a worker.
 fn past_entries(at: usize, workers: u32, entries: &[u8]) -> Result<usize, RecordFault>
     requires { (at < 2 ^ 20) × (length entries.now ≤ longest_file) }
     ensures { result ≡ past_entries workers entries.now at }
 {
     let mut next = at;
     for entry in entries {
-        next = past_entry(next, workers, *entry)?;
+        next = past_field(next, Field::Entry { workers }, u32::from(*entry))?;
     }
     Ok(next)
 }
@@ -173,7 +137,7 @@ fn past_header(plan: &Plan<'_>) -> Result<usize, RecordFault>
     ensures end { result ≡ past_header (plan_numbers plan.now) }
     ensures shape { Shape (plan_numbers plan.now) }
 {
-    let at_levels = past_count(0, level_count(plan))?;
+    let at_levels = past_field(0, Field::LevelCount, level_count(plan))?;
     let at_scripts = past_levels(at_levels, plan.used_levels())?;
     past_scripts(at_scripts, plan.used_scripts())
 }

@@ -1,33 +1,29 @@
--- One turn of the loop that writes a number: a group is laid, and the spelling of the rest is left.
-use Rattle.std.proofs.Common.{◌≡◌, ℕ, zero, suc, ◌+◌, ◌/◌, ◌%◌, ◌^◌, ◌<◌, ◌≤◌, List, length, set, sym, refl, ap, ◌∙◌, arith}
+-- One turn of the loop that writes a number: a group is written, and the spelling of the rest is left.
+use Rattle.std.proofs.Common.{ℕ, zero, suc, ◌+◌, ◌/◌, ◌%◌, ◌^◌, ◌<◌, ◌≤◌, [], ◌∷◌, refl, arith}
 use Rattle.turn_file.specs.Spelling.{spell_in, spell}
 use Rattle.turn_file.proofs.Spelled.{limit, limit_more, limit_wide, spell_more}
-use Rattle.turn_writer.specs.Laying.{laid}
+use Rattle.turn_writer.specs.Page.{Page, Room, written}
+use Rattle.turn_writer.proofs.Pages.{Writing, one_more}
 
--- the spelling of `high` in at most so many groups is what is left, from the place `next` on
-pub record Left (out : List ℕ) (at v : ℕ) (now : List ℕ) (next high : ℕ) : Type 0 where
+-- the spelling of `high` in at most so many groups is still to be written
+pub record Left (v : ℕ) (start now : Page) (high : ℕ) : Type 0 where
   pub groups : ℕ
   pub few : high < limit (suc groups)
-  pub same : laid now next (spell_in (suc groups) high) ≡ laid out at (spell v)
-  pub ends : next + length (spell_in (suc groups) high) ≡ at + length (spell v)
+  pub writing : Writing (spell v) start (spell_in (suc groups) high) now
 
-pub left_all : (out : List ℕ) (at v : ℕ) → v < 2 ^ 32 → Left out at v out at v
-left_all out at v small = record { groups = 4; few = omega arith; same = refl; ends = refl }
+pub left_all : (v : ℕ) (start : Page) → v < 2 ^ 32 → Room (spell v) start → Left v start start v
+left_all v start small room =
+    record { groups = 4; few = omega arith; writing = record { same = refl; room = room } }
 
-module _ {out : List ℕ} {at v : ℕ} {now : List ℕ} {next high : ℕ} (l : Left out at v now next high) where
-  pub left_more : 128 ≤ high → Left out at v (set now next (128 + high % 128)) (next + 1) (high / 128)
-  left_more more = behind l.groups l.few l.same l.ends
+module _ {v : ℕ} {start now : Page} {high : ℕ} (l : Left v start now high) where
+  pub left_more : 128 ≤ high → Left v start (written ((128 + high % 128) ∷ []) now) (high / 128)
+  left_more more = behind l.groups l.few l.writing
     where
-      behind : (groups : ℕ) → high < limit (suc groups) →
-          laid now next (spell_in (suc groups) high) ≡ laid out at (spell v) →
-          next + length (spell_in (suc groups) high) ≡ at + length (spell v) →
-          Left out at v (set now next (128 + high % 128)) (next + 1) (high / 128)
-      behind zero few same ends = absurd (omega (arith, limit_wide 0 (omega arith)))
-      behind (suc groups) few same ends =
-          let cut = spell_more (suc groups) high more in
-          record {
-            groups = groups;
-            few = omega (arith, limit_more (suc groups) (omega arith));
-            same = sym (ap (laid now next) cut) ∙ same;
-            ends = omega (arith, ends, ap length cut);
-          }
+      behind : (groups : ℕ) → high < limit (suc groups) → Writing (spell v) start (spell_in (suc groups) high) now →
+          Left v start (written ((128 + high % 128) ∷ []) now) (high / 128)
+      behind zero few w = absurd (omega (arith, limit_wide 0 (omega arith)))
+      behind (suc groups) few w = record {
+        groups = groups;
+        few = omega (arith, limit_more (suc groups) (omega arith));
+        writing = one_more w _ _ (spell_more (suc groups) high more);
+      }

@@ -5,7 +5,7 @@ pub mod Bytes
 pub mod Cuts
 pub mod Groups
 pub mod Law
-pub mod Layings
+pub mod Pages
 pub mod LevelSection
 pub mod Parts
 pub mod RefusedPlans

@@ -1,5 +1,5 @@
 pub mod Judgement
-pub mod Laying
+pub mod Page
 pub mod Records
 pub mod Shape
 pub mod Writing

@@ -5,6 +5,7 @@ use Rattle.turn_file.specs.declared.plan.Script.{Script}
 use Rattle.turn_file.specs.Order.{record_spelling, spelling}
 use Rattle.turn_file.specs.Plan.{PlanNumbers, used_levels, used_scripts}
 use Rattle.turn_file.specs.Reading.{Item, levels, level, script, schedule}
+use Rattle.turn_file.specs.Spelling.{spell}
 
 -- the used numbers of a level with so many levels above it: the top level has no handoff limit
 abbrev pub used_level : ℕ → Level → Level
@@ -51,3 +52,10 @@ levels_spelling rank ls = spelling (level_records rank ls)
 
 abbrev pub scripts_spelling : ℕ → List Script → List ℕ
 scripts_spelling worker ss = spelling (script_records worker ss)
+
+-- the bytes of all that stands before the count of entries, and of the entries with their count
+abbrev pub header_spelling : PlanNumbers → List ℕ
+header_spelling p = spell p.count ++ (levels_spelling 0 (used_levels p) ++ scripts_spelling 0 (used_scripts p))
+
+abbrev pub schedule_spelling : List ℕ → List ℕ
+schedule_spelling es = record_spelling (schedule es)

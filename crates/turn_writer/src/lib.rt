@@ -3,5 +3,6 @@
 
 mod judge;
 mod number_writer;
+mod pen;
 pub mod plan_writer;
 mod record_writer;

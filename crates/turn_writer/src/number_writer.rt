@@ -1,7 +1,9 @@
 // Numbers as bytes: groups of seven bits, lowest first, the top bit set in all but the last.
-ghost use Rattle.std.specs.Prelude.{◌≡◌, ◌+◌, ◌≤◌, length};
+ghost use Rattle.std.specs.Prelude.{◌≡◌, length};
 ghost use Rattle.turn_file.specs.Spelling.{spell};
-ghost use Rattle.turn_writer.specs.Laying.{laid};
+ghost use Rattle.turn_writer.specs.Page.{page, Room, written};
+
+use crate::pen::Pen;
 
 // How many bytes a number takes.
 pub(crate) fn number_size(value: u32) -> usize
@@ -16,19 +18,14 @@ pub(crate) fn number_size(value: u32) -> usize
     }
 }
 
-// Writes a number at `at`; the answer is the place after it.
-pub(crate) fn write_number(out: &mut [u8], at: usize, value: u32) -> usize
-    requires { at + length (spell value) ≤ length out.old }
-    ensures next { result ≡ at + length (spell value) }
-    ensures bytes { out.new ≡ laid out.old at (spell value) }
+pub(crate) fn write_number(pen: &mut Pen<'_>, value: u32)
+    requires { Room (spell value) (page pen.old) }
+    ensures { page pen.new ≡ written (spell value) (page pen.old) }
 {
-    let mut next = at;
     let mut high = value;
     while high >= 0x80 {
-        out[next] = 0x80 + (high % 0x80) as u8;
+        pen.write_byte(0x80 + (high % 0x80) as u8);
         high /= 0x80;
-        next += 1;
     }
-    out[next] = high as u8;
-    next + 1
+    pen.write_byte(high as u8);
 }

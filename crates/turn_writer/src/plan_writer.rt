@@ -1,31 +1,60 @@
 // Writes a whole plan.
-ghost use Rattle.std.specs.Prelude.{◌≡◌, ◌^◌, ◌<◌, ◌≤◌, length};
+ghost use Rattle.std.specs.Prelude.{◌≡◌, ◌^◌, ◌<◌, ◌≤◌, ◌++◌, length, drop};
 ghost use Rattle.std.specs.List.{flat_map};
 ghost use Rattle.turn_file.specs.Plan.{plan_numbers};
 ghost use Rattle.turn_file.specs.Spelling.{spell};
 ghost use Rattle.turn_writer.specs.Judgement.{file_length};
-ghost use Rattle.turn_writer.specs.Laying.{laid};
-ghost use Rattle.turn_writer.specs.Records.{plan_spelling};
+ghost use Rattle.turn_writer.specs.Page.{page, Room, written};
+ghost use Rattle.turn_writer.specs.Records.{header_spelling, schedule_spelling, plan_spelling};
 ghost use Rattle.turn_writer.specs.Writing.{written_length, output_after, Writes, Measures};
 
 use crate::judge::past_plan;
 use crate::number_writer::write_number;
-use crate::record_writer::{write_entries, write_levels, write_scripts};
+use crate::pen::Pen;
+use crate::record_writer::{write_levels, write_scripts};
 use turn_file::fault::FileFault;
 use turn_file::plan::Plan;
 
-// Writes the records of a plan whose file fits the output.
-fn write_records(plan: &Plan<'_>, out: &mut [u8])
+// All that stands before the count of entries.
+fn write_header(pen: &mut Pen<'_>, plan: &Plan<'_>)
+    requires { Room (header_spelling (plan_numbers plan.now)) (page pen.old) }
+    ensures { page pen.new ≡ written (header_spelling (plan_numbers plan.now)) (page pen.old) }
+{
+    write_number(pen, plan.level_count);
+    write_levels(pen, plan.used_levels());
+    write_scripts(pen, plan.used_scripts());
+}
+
+// Each entry is its own spelling, a byte below 128.
+fn write_schedule(pen: &mut Pen<'_>, entries: &[u8])
+    requires plain { flat_map spell entries.now ≡ entries.now }
+    requires few { length entries.now < 2 ^ 32 }
+    requires room { Room (schedule_spelling entries.now) (page pen.old) }
+    ensures { page pen.new ≡ written (schedule_spelling entries.now) (page pen.old) }
+{
+    write_number(pen, entries.len() as u32);
+    pen.write_bytes(entries);
+}
+
+fn write_records(pen: &mut Pen<'_>, plan: &Plan<'_>)
+    requires plain { flat_map spell (plan_numbers plan.now).entries ≡ (plan_numbers plan.now).entries }
+    requires few { length (plan_numbers plan.now).entries < 2 ^ 32 }
+    requires room { Room (plan_spelling (plan_numbers plan.now)) (page pen.old) }
+    ensures { page pen.new ≡ written (plan_spelling (plan_numbers plan.now)) (page pen.old) }
+{
+    write_header(pen, plan);
+    write_schedule(pen, plan.schedule);
+}
+
+// Writes the file of a plan into the front of an output that has space for it.
+fn write_file(plan: &Plan<'_>, out: &mut [u8])
     requires plain { flat_map spell (plan_numbers plan.now).entries ≡ (plan_numbers plan.now).entries }
     requires few { length (plan_numbers plan.now).entries < 2 ^ 32 }
     requires space { length (plan_spelling (plan_numbers plan.now)) ≤ length out.old }
-    ensures { out.new ≡ laid out.old 0 (plan_spelling (plan_numbers plan.now)) }
+    ensures { let file = plan_spelling (plan_numbers plan.now) in out.new ≡ file ++ drop (length file) out.old }
 {
-    let at_levels = write_number(out, 0, plan.level_count);
-    let at_scripts = write_levels(out, at_levels, plan.used_levels());
-    let at_count = write_scripts(out, at_scripts, plan.used_scripts());
-    let at_entries = write_number(out, at_count, plan.schedule.len() as u32);
-    write_entries(out, at_entries, plan.schedule);
+    let mut pen = Pen::new(out);
+    write_records(&mut pen, plan);
 }
 
 // How long the plan's file is, or why the plan cannot be written, whatever space there is.
@@ -47,6 +76,6 @@ pub fn write_plan(plan: &Plan<'_>, out: &mut [u8]) -> Result<usize, FileFault>
     if length > out.len() {
         return Err(FileFault::OutputTooShort);
     }
-    write_records(plan, out);
+    write_file(plan, out);
     Ok(length)
 }

@@ -1,4 +1,4 @@
-use Rattle.std.proofs.Common.{cond, length, Ok, Err, sym, refl, ap, ◌∙◌, subst, arith}
+use Rattle.std.proofs.Common.{◌++◌, drop, cond, length, Ok, Err, sym, refl, ap, ◌∙◌, subst, arith}
 use Rattle.std.proofs.lemmas.Result.{err_from_is_err_and}
 use Rattle.std.proofs.lemmas.Bool.{lt-ltb, le-ltb}
 use Rattle.turn_file.specs.declared.fault.FileFault.TheVariants.{OutputTooShort}
@@ -6,7 +6,6 @@ use Rattle.turn_file.specs.Plan.{plan_numbers}
 use Rattle.turn_writer.specs.Records.{plan_spelling}
 use Rattle.turn_writer.specs.Writing.{with_space, output_after, Writes}
 use Rattle.turn_writer.proofs.Law.{writes}
-use Rattle.turn_writer.proofs.Layings.{laid_front}
 use Rattle.turn_writer.proofs.AcceptedPlans.{plan_accepted}
 use Rattle.turn_writer.proofs.plan_writer.write_plan.Goals as goal
 
@@ -37,8 +36,8 @@ returns-then-length-out c =
       law = subst (Writes p space) (sym answer) (writes p c.past_plan.ensures.known space);
     }
 
-pub write_records-requires : goal.write_records-requires
-write_records-requires c =
+pub write_file-requires : goal.write_file-requires
+write_file-requires c =
     let p = plan_numbers c.args.plan.now in
     let is = sym c.past_plan.ensures.end ∙ c.in_ok-length.was in
     let a = plan_accepted p c.in_ok-length.length c.past_plan.ensures.known.shape is in
@@ -59,7 +58,6 @@ returns c =
     ∙ ap (λ t. cond t (Err OutputTooShort) (Ok n)) (le-ltb (length out) n c.if-length-out.false)) in
     record {
       answer = answer;
-      output = c.write_records.ensures
-          ∙ laid_front out (plan_spelling p) n (omega (arith, a.long, c.if-length-out.false)) a.long;
+      output = c.write_file.ensures ∙ ap (λ k. plan_spelling p ++ drop k out) (sym a.long);
       law = subst (Writes p (length out)) (sym answer) (writes p c.past_plan.ensures.known (length out));
     }

@@ -1,0 +1,25 @@
+-- An output that is written from the front on.
+use Rattle.std.specs.Prelude.{ℕ, ◌≤◌, List, [], ◌++◌, length, take, drop}
+use Rattle.std.specs.Borrow.{GName, MutBor}
+use Rattle.turn_writer.specs.declared.pen.Pen.{Pen}
+
+-- which output it is, what is written of it, and what is not
+pub record Page : Type 0 where
+  pub output : GName
+  pub front : List ℕ
+  pub rest : List ℕ
+
+abbrev pub page : Pen → Page
+page p = record { output = p.out.ghost_name; front = take p.at p.out.now; rest = drop p.at p.out.now }
+
+-- nothing is written yet
+abbrev pub blank : MutBor (List ℕ) → Page
+blank out = record { output = out.ghost_name; front = []; rest = out.now }
+
+-- there is space for these bytes
+abbrev pub Room : List ℕ → Page → Type 0
+Room bytes p = length bytes ≤ length p.rest
+
+-- once these bytes are written too
+abbrev pub written : List ℕ → Page → Page
+written bytes p = record { output = p.output; front = p.front ++ bytes; rest = drop (length bytes) p.rest }

@@ -3,6 +3,7 @@ pub mod AcceptedRecords
 pub mod Again
 pub mod Bytes
 pub mod Cuts
+pub mod Folds
 pub mod Groups
 pub mod Law
 pub mod Pages

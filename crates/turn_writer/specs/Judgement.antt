@@ -43,13 +43,17 @@ past_script s at =
     bind (past_field ScriptNumber s.rest at_rest) (λ at_hold.
     past_field ScriptNumber s.hold at_hold))
 
-abbrev pub past_scripts : List Script → ℕ → Result ℕ RecordFault
-past_scripts [] at = Ok at
-past_scripts (s ∷ ss) at = bind (past_script s at) (λ next. past_scripts ss next)
+-- items one behind the other
+abbrev pub past_each : {A : Type 0} → (A → ℕ → Result ℕ RecordFault) → List A → ℕ → Result ℕ RecordFault
+past_each past_one [] at = Ok at
+past_each past_one (x ∷ xs) at = bind (past_one x at) (λ next. past_each past_one xs next)
 
+abbrev pub past_scripts : List Script → ℕ → Result ℕ RecordFault
+past_scripts = past_each past_script
+
+-- each entry is a worker
 abbrev pub past_entries : ℕ → List ℕ → ℕ → Result ℕ RecordFault
-past_entries workers [] at = Ok at
-past_entries workers (e ∷ es) at = bind (past_field (Entry workers) e at) (λ next. past_entries workers es next)
+past_entries workers = past_each (past_field (Entry workers))
 
 -- all that stands before the count of entries
 abbrev pub past_header : PlanNumbers → Result ℕ RecordFault

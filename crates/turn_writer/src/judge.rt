@@ -80,11 +80,7 @@ fn past_scripts(at: usize, scripts: &[Script]) -> Result<usize, RecordFault>
     requires { (at < 2 ^ 20) × (length scripts.now ≤ 64) }
     ensures { result ≡ past_scripts scripts.now at }
 {
-    let mut next = at;
-    for script in scripts {
-        next = past_script(next, script)?;
-    }
-    Ok(next)
+    scripts.iter().try_fold(at, past_script)
 }
 
 // Each entry is a worker.

@@ -1,5 +1,5 @@
 -- A `try_fold` that takes a place past the items of a slice, one behind the other.
-use Rattle.std.proofs.Common.{◌≡◌, ℕ, ◌+◌, ◌*◌, ◌<◌, ◌≤◌, List, [], ◌∷◌, length, Some, None, Ok, Err, IsErr, Result, Bor, Iter, sym, ap, ◌∙◌, arith}
+use Rattle.std.proofs.Common.{◌≡◌, ℕ, ◌+◌, ◌*◌, ◌<◌, ◌≤◌, List, [], ◌∷◌, length, Some, None, Ok, Err, IsErr, Result, Bor, Iter, sym, ap, ◌∙◌, subst, arith}
 use Rattle.std.specs.Fn.{Called, Takes}
 use Rattle.std.specs.Iterator.{Yields, TryFoldTurn, TryFoldsItems, CallableAtEachTurn}
 use Rattle.std.specs.List.{FoldsTo}
@@ -16,43 +16,65 @@ use Rattle.turn_writer.specs.Judgement.{past_each}
 abbrev pub FlowsBy : {Flow : Type 0} → (Flow → Result ℕ RecordFault) → Result ℕ RecordFault → Flow → Type 0
 FlowsBy answer r flow = r ≡ answer flow
 
--- each call takes the place past its item
-module _ {A F : Type 0} (g : Mut F (ℕ × (Bor A × Unit {0})) (Result ℕ RecordFault)) (one : A → ℕ → Result ℕ RecordFault)
-    (calls : (f h : F) (at : ℕ) (x : Bor A) (r : Result ℕ RecordFault) → Called g f (at, (x, tt)) r h →
-        r ≡ one x.now at) where
-  along : (xs : List (Bor A)) (s t : Iter A) (p q : F × ℕ) → Yields fronts s xs t →
-      FoldsTo (TryFoldTurn g (FlowsBy result_from_control_flow)) p xs q → past_each one s.rest.now p.1 ≡ past_each one t.rest.now q.1
-  along [] s t p q y c = ap (λ s. past_each one s.rest.now p.1) y ∙ ap (λ p. past_each one t.rest.now p.1) c
-  along (x ∷ xs) s t p q (i, first, y) (m, (r, called, on), c) =
-      ap (λ items. past_each one items p.1) first
-      ∙ ap (λ r. bind r (past_each one i.rest.now)) (sym (calls p.0 m.0 p.1 x r called) ∙ on)
-      ∙ along xs i t m q y c
+-- each call takes the place past its item, and leaves the closure as it was
+module _ {A F : Type 0} (g : Mut F (ℕ × (Bor A × Unit {0})) (Result ℕ RecordFault)) (f : F)
+    (one : A → ℕ → Result ℕ RecordFault)
+    (calls : (h : F) (at : ℕ) (x : Bor A) (r : Result ℕ RecordFault) → Called g f (at, (x, tt)) r h →
+        (h ≡ f) × (r ≡ one x.now at)) where
+  abbrev Turns : ℕ → List (Bor A) → F × ℕ → Type 0
+  Turns at xs last = FoldsTo (TryFoldTurn g (FlowsBy result_from_control_flow)) (f, at) xs last
 
-  pub folded : (s u : Iter A) (f : F) (at : ℕ) (r : Result ℕ RecordFault) →
-      TryFoldsItems fronts g (FlowsBy result_from_control_flow) (λ e r. IsErr r × IsErrAnd r (λ f. f ≡ e.0)) s f at r u → r ≡ past_each one s.rest.now at
-  folded s u f at r (xs, None, h, b, (t, y, last), c, ends) =
+  again : {h : F} (at : ℕ) (xs : List (Bor A)) (last : F × ℕ) → h ≡ f →
+      FoldsTo (TryFoldTurn g (FlowsBy result_from_control_flow)) (h, at) xs last → Turns at xs last
+  again at xs last same c =
+      subst (λ h. FoldsTo (TryFoldTurn g (FlowsBy result_from_control_flow)) (h, at) xs last) same c
+
+  along : (xs : List (Bor A)) (s t : Iter A) (at : ℕ) (last : F × ℕ) → Yields fronts s xs t → Turns at xs last →
+      (last.0 ≡ f) × (past_each one s.rest.now at ≡ past_each one t.rest.now last.1)
+  along [] s t at last y c =
+      (sym (ap (λ p. p.0) c), ap (λ s. past_each one s.rest.now at) y ∙ ap (λ p. past_each one t.rest.now p.1) c)
+  along (x ∷ xs) s t at last (i, first, y) (m, (r, called, on), c) =
+      let k = calls m.0 at x r called in
+      let rest = along xs i t m.1 last y (again m.1 xs last k.0 c) in (
+        rest.0,
+        ap (λ items. past_each one items at) first
+            ∙ ap (λ r. bind r (past_each one i.rest.now)) (sym k.1 ∙ on)
+            ∙ rest.1,
+      )
+
+  pub folded : (s u : Iter A) (at : ℕ) (r : Result ℕ RecordFault) →
+      TryFoldsItems fronts g (FlowsBy result_from_control_flow) (λ e r. IsErr r × IsErrAnd r (λ f. f ≡ e.0)) s f at r u →
+      r ≡ past_each one s.rest.now at
+  folded s u at r (xs, None, h, b, (t, y, last), c, ends) =
       ends
       ∙ ap (λ items. past_each one items b) (sym (nil_from_length t.rest.now last.0))
-      ∙ sym (along xs s t (f, at) (h, b) y c)
-  folded s u f at r (xs, Some x, h, b, (t, y, last), c, (v, k, e, called, broke, resumed)) =
+      ∙ sym (along xs s t at (h, b) y c).1
+  folded s u at r (xs, Some x, h, b, (t, y, last), c, (v, k, e, called, broke, resumed)) =
       let stop = err_from_is_err_and r resumed.1 in
+      let so_far = along xs s t at (h, b) y c in
+      let again = subst (λ h. Called g h (b, (x, tt)) v k) so_far.0 called in
       stop.1 ∙ ap Err stop.2
-      ∙ ap (λ w. bind w (past_each one u.rest.now)) (sym broke ∙ calls h k b x v called)
+      ∙ ap (λ w. bind w (past_each one u.rest.now)) (sym broke ∙ (calls k b x v again).1)
       ∙ ap (λ items. past_each one items b) (sym last)
-      ∙ sym (along xs s t (f, at) (h, b) y c)
+      ∙ sym so_far.1
 
   -- where each call goes on by so many places at most, and needs the place to be low
   module _ (size high : ℕ) (near : (x : A) (at next : ℕ) → one x at ≡ Ok next → next ≤ at + size)
-      (takes : (f : F) (at : ℕ) (x : Bor A) → at < high → Takes g f (at, (x, tt))) where
-    reach : (xs : List (Bor A)) (s t : Iter A) (p q : F × ℕ) → Yields fronts s xs t →
-        FoldsTo (TryFoldTurn g (FlowsBy result_from_control_flow)) p xs q → q.1 + size * length t.rest.now ≤ p.1 + size * length s.rest.now
-    reach [] s t p q y c = omega (arith, ap (λ s. size * length s.rest.now) y, ap (λ p. p.1) c)
-    reach (x ∷ xs) s t p q (i, first, y) (m, (r, called, on), c) =
-        let here = near x.now p.1 m.1 (sym (calls p.0 m.0 p.1 x r called) ∙ on) in
-        omega (arith, here, ap (λ items. size * length items) first, reach xs i t m q y c)
+      (takes : (at : ℕ) (x : Bor A) → at < high → Takes g f (at, (x, tt))) where
+    reach : (xs : List (Bor A)) (s t : Iter A) (at : ℕ) (last : F × ℕ) → Yields fronts s xs t → Turns at xs last →
+        last.1 + size * length t.rest.now ≤ at + size * length s.rest.now
+    reach [] s t at last y c = omega (arith, ap (λ s. size * length s.rest.now) y, ap (λ p. p.1) c)
+    reach (x ∷ xs) s t at last (i, first, y) (m, (r, called, on), c) =
+        let k = calls m.0 at x r called in
+        let here = near x.now at m.1 (sym k.1 ∙ on) in
+        let rest = reach xs i t m.1 last y (again m.1 xs last k.0 c) in
+        omega (arith, here, ap (λ items. size * length items) first, rest)
 
-    pub served : (s : Iter A) (f : F) (at : ℕ) → at + size * length s.rest.now < high →
-        CallableAtEachTurn {P = F × ℕ} fronts (TryFoldTurn g (FlowsBy result_from_control_flow)) (λ p x. Takes g p.0 (p.1, (x, tt))) s (f, at)
-    served s f at low = record {
-      at = λ xs t q x u y c e. takes q.0 q.1 x (omega (arith, low, reach xs s t (f, at) q y c));
+    pub served : (s : Iter A) (at : ℕ) → at + size * length s.rest.now < high →
+        CallableAtEachTurn {P = F × ℕ} fronts (TryFoldTurn g (FlowsBy result_from_control_flow))
+        (λ p x. Takes g p.0 (p.1, (x, tt))) s (f, at)
+    served s at low = record {
+      at = λ xs t q x u y c e.
+          subst (λ h. Takes g h (q.1, (x, tt))) (sym (along xs s t at q y c).0)
+          (takes q.1 x (omega (arith, low, reach xs s t at q y c)));
     }

@@ -88,11 +88,8 @@ fn past_entries(at: usize, workers: u32, entries: &[u8]) -> Result<usize, Record
     requires { (at < 2 ^ 20) × (length entries.now ≤ longest_file) }
     ensures { result ≡ past_entries workers entries.now at }
 {
-    let mut next = at;
-    for entry in entries {
-        next = past_field(next, Field::Entry { workers }, u32::from(*entry))?;
-    }
-    Ok(next)
+    let field = Field::Entry { workers };
+    entries.iter().try_fold(at, |next, entry| past_field(next, field, u32::from(*entry)))
 }
 
 // The count of entries is judged before them.

@@ -21,21 +21,16 @@ module _ {A F : Type 0} (g : Mut F (ℕ × (Bor A × Unit {0})) (Result ℕ Reco
     (one : A → ℕ → Result ℕ RecordFault)
     (calls : (h : F) (at : ℕ) (x : Bor A) (r : Result ℕ RecordFault) → Called g f (at, (x, tt)) r h →
         (h ≡ f) × (r ≡ one x.now at)) where
-  abbrev Turns : ℕ → List (Bor A) → F × ℕ → Type 0
-  Turns at xs last = FoldsTo (TryFoldTurn g (FlowsBy result_from_control_flow)) (f, at) xs last
+  abbrev pub Turn : F × ℕ → Bor A → F × ℕ → Type 0
+  Turn = TryFoldTurn g (FlowsBy result_from_control_flow)
 
-  again : {h : F} (at : ℕ) (xs : List (Bor A)) (last : F × ℕ) → h ≡ f →
-      FoldsTo (TryFoldTurn g (FlowsBy result_from_control_flow)) (h, at) xs last → Turns at xs last
-  again at xs last same c =
-      subst (λ h. FoldsTo (TryFoldTurn g (FlowsBy result_from_control_flow)) (h, at) xs last) same c
-
-  along : (xs : List (Bor A)) (s t : Iter A) (at : ℕ) (last : F × ℕ) → Yields fronts s xs t → Turns at xs last →
+  along : (xs : List (Bor A)) (s t : Iter A) (at : ℕ) (last : F × ℕ) → Yields fronts s xs t → FoldsTo Turn (f, at) xs last →
       (last.0 ≡ f) × (past_each one s.rest.now at ≡ past_each one t.rest.now last.1)
   along [] s t at last y c =
       (sym (ap (λ p. p.0) c), ap (λ s. past_each one s.rest.now at) y ∙ ap (λ p. past_each one t.rest.now p.1) c)
   along (x ∷ xs) s t at last (i, first, y) (m, (r, called, on), c) =
       let k = calls m.0 at x r called in
-      let rest = along xs i t m.1 last y (again m.1 xs last k.0 c) in (
+      let rest = along xs i t m.1 last y (subst (λ h. FoldsTo Turn (h, m.1) xs last) k.0 c) in (
         rest.0,
         ap (λ items. past_each one items at) first
             ∙ ap (λ r. bind r (past_each one i.rest.now)) (sym k.1 ∙ on)
@@ -61,17 +56,17 @@ module _ {A F : Type 0} (g : Mut F (ℕ × (Bor A × Unit {0})) (Result ℕ Reco
   -- where each call goes on by so many places at most, and needs the place to be low
   module _ (size high : ℕ) (near : (x : A) (at next : ℕ) → one x at ≡ Ok next → next ≤ at + size)
       (takes : (at : ℕ) (x : Bor A) → at < high → Takes g f (at, (x, tt))) where
-    reach : (xs : List (Bor A)) (s t : Iter A) (at : ℕ) (last : F × ℕ) → Yields fronts s xs t → Turns at xs last →
+    reach : (xs : List (Bor A)) (s t : Iter A) (at : ℕ) (last : F × ℕ) → Yields fronts s xs t → FoldsTo Turn (f, at) xs last →
         last.1 + size * length t.rest.now ≤ at + size * length s.rest.now
     reach [] s t at last y c = omega (arith, ap (λ s. size * length s.rest.now) y, ap (λ p. p.1) c)
     reach (x ∷ xs) s t at last (i, first, y) (m, (r, called, on), c) =
         let k = calls m.0 at x r called in
         let here = near x.now at m.1 (sym k.1 ∙ on) in
-        let rest = reach xs i t m.1 last y (again m.1 xs last k.0 c) in
+        let rest = reach xs i t m.1 last y (subst (λ h. FoldsTo Turn (h, m.1) xs last) k.0 c) in
         omega (arith, here, ap (λ items. size * length items) first, rest)
 
     pub served : (s : Iter A) (at : ℕ) → at + size * length s.rest.now < high →
-        CallableAtEachTurn {P = F × ℕ} fronts (TryFoldTurn g (FlowsBy result_from_control_flow))
+        CallableAtEachTurn {P = F × ℕ} fronts Turn
         (λ p x. Takes g p.0 (p.1, (x, tt))) s (f, at)
     served s at low = record {
       at = λ xs t q x u y c e.

@@ -2,7 +2,6 @@ pub mod AcceptedPlans
 pub mod AcceptedRecords
 pub mod Again
 pub mod Bytes
-pub mod Cuts
 pub mod Folds
 pub mod Groups
 pub mod Law
@@ -17,5 +16,4 @@ pub mod Sizes
 pub mod Stages
 pub mod Standing
 pub mod Stops
-pub mod Turns
 pub mod Typed

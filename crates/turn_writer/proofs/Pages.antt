@@ -7,10 +7,7 @@ use Rattle.turn_writer.specs.Page.{Page, Room, written}
 pub written_both : (xs ys : List ℕ) (p : Page) → written ys (written xs p) ≡ written (xs ++ ys) p
 written_both xs ys p = simp (append_assoc, drop-drop, length-append)
 
--- there is space for the first, and behind it for the second
-pub room_first : (xs ys : List ℕ) (p : Page) → Room (xs ++ ys) p → Room xs p
-room_first xs ys p room = omega (arith, room, length-append xs ys)
-
+-- there is space for the second behind the first
 pub room_second : (xs ys : List ℕ) (p : Page) → Room (xs ++ ys) p → Room ys (written xs p)
 room_second xs ys p room = omega (arith, room, length-append xs ys, length-drop (length xs) p.rest)
 

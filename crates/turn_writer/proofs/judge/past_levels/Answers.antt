@@ -1,11 +1,23 @@
-use Rattle.std.proofs.Common.{get_or, Err, sym, ap, ◌∙◌, arith}
-use Rattle.std.proofs.lemmas.List.{at_drop_all}
+use Rattle.std.proofs.Common.{◌≡◌, ℕ, ◌+◌, ◌*◌, ◌<◌, List, length, drop, get_or, Err, Result, sym, ap, ◌∙◌, arith}
+use Rattle.std.proofs.lemmas.List.{at_drop_all, at_drop_more}
 use Rattle.std.proofs.lemmas.Result.{err_from_is_err_and}
+use Rattle.turn_file.specs.declared.fault.RecordFault.{RecordFault}
+use Rattle.turn_file.specs.declared.plan.Level.{Level}
 use Rattle.turn_file.specs.Plan.{no_level}
-use Rattle.turn_writer.specs.Judgement.{past_levels}
+use Rattle.turn_file.specs.Record.{bind}
+use Rattle.turn_writer.specs.Judgement.{past_level, past_levels}
 use Rattle.turn_writer.proofs.Sizes.{level_past}
-use Rattle.turn_writer.proofs.Turns.{after_level, levels_more}
 use Rattle.turn_writer.proofs.judge.past_levels.Goals as goal
+
+-- one turn of the loop: what is left to judge, once the level is judged
+abbrev after_level : ℕ → ℕ → List Level → Result ℕ RecordFault → Result ℕ RecordFault
+after_level rank parties ls r =
+    bind r (λ next. past_levels (rank + 1) (parties * (get_or ls rank no_level).fan_out) (drop (rank + 1) ls) next)
+
+levels_more : (rank parties : ℕ) (ls : List Level) (at : ℕ) → rank < length ls →
+    past_levels rank parties (drop rank ls) at
+    ≡ after_level rank parties ls (past_level rank parties (get_or ls rank no_level) at)
+levels_more rank parties ls at more = at_drop_more (λ left. past_levels rank parties left at) ls rank no_level more
 
 pub returns-in_err-next : goal.returns-in_err-next
 returns-in_err-next c =

@@ -95,7 +95,8 @@ fn past_entries(at: usize, workers: u32, entries: &[u8]) -> Result<usize, Record
 // The count of entries is judged before them.
 fn past_entry_count(at: usize, entries: &[u8]) -> Result<usize, FileFault>
     requires { at < 2 ^ 16 }
-    ensures { result ≡ past_entry_count entries.now at }
+    ensures end { result ≡ past_entry_count entries.now at }
+    ensures words { AllByRecursion Word entries.now }
 {
     if entries.len() > LONGEST_FILE {
         return Err(FileFault::TooLong);

@@ -26,12 +26,3 @@ past_scripts-requires c =
       omega (arith, front, far, shape.four, ap length c.used_levels.ensures, length-take p.count p.levels),
       omega (arith, shape.sixty_four, ap length c.used_scripts.ensures, length-take (workers_of p) p.scripts),
     )
-
-pub returns-in_err-at_levels : goal.returns-in_err-at_levels
-returns-in_err-at_levels c = record { end = search rules; shape = c.level_count.ensures.shape }
-
-pub returns-in_err-at_scripts : goal.returns-in_err-at_scripts
-returns-in_err-at_scripts c = record { end = search rules; shape = c.level_count.ensures.shape }
-
-pub returns : goal.returns
-returns c = record { end = search rules; shape = c.level_count.ensures.shape }

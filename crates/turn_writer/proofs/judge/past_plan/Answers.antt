@@ -18,12 +18,3 @@ returns-in_err-at_count c = record {
     entries = λ at is. absurd (not_both (sym is ∙ sym c.past_header.ensures.end ∙ c.in_err-at_count.was));
   };
 }
-
-pub returns : goal.returns
-returns c = record {
-  end = search rules;
-  known = record {
-    shape = c.past_header.ensures.shape;
-    entries = λ at is. c.past_schedule.ensures.words;
-  };
-}

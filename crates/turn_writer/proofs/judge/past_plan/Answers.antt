@@ -10,11 +10,7 @@ past_schedule-requires c =
     let header = sym c.past_header.ensures.end ∙ c.in_ok-at_count.was in
     omega (arith, header_past (plan_numbers c.args.plan.now) _ shape.four shape.sixty_four header)
 
-pub returns-in_err-at_count : goal.returns-in_err-at_count
-returns-in_err-at_count c = record {
-  end = search rules;
-  known = record {
-    shape = c.past_header.ensures.shape;
-    entries = λ at is. absurd (not_both (sym is ∙ sym c.past_header.ensures.end ∙ c.in_err-at_count.was));
-  };
-}
+pub returns-in_err-at_count-clause-known : goal.returns-in_err-at_count-clause-known
+returns-in_err-at_count-clause-known c =
+    let err = sym c.past_header.ensures.end ∙ c.in_err-at_count.was in
+    record { shape = c.past_header.ensures.shape; entries = λ at is. absurd (not_both (sym is ∙ err)) }

@@ -20,7 +20,7 @@ FlowsBy answer r flow = r ≡ answer flow
 module _ {A F : Type 0} (g : Mut F (ℕ × (Bor A × Unit {0})) (Result ℕ RecordFault)) (f : F)
     (one : A → ℕ → Result ℕ RecordFault)
     (calls : (h : F) (at : ℕ) (x : Bor A) (r : Result ℕ RecordFault) → Called g f (at, (x, tt)) r h →
-        (h ≡ f) × (r ≡ one x.now at)) where
+    (h ≡ f) × (r ≡ one x.now at)) where
   abbrev pub Turn : F × ℕ → Bor A → F × ℕ → Type 0
   Turn = TryFoldTurn g (FlowsBy result_from_control_flow)
 

@@ -148,3 +148,6 @@ module _ (p : PlanNumbers) (known : Known p) where
           | inr e ↦ cc e.3
         ];
   }
+
+  pub writes_as : {space : ℕ} {r : Result ℕ FileFault} → r ≡ written_length p space → Writes p space r
+  writes_as {space} answer = subst (Writes p space) (sym answer) (writes space)

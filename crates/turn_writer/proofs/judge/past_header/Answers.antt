@@ -1,4 +1,4 @@
-use Rattle.std.proofs.Common.{length, sym, ap, ◌∙◌, arith, rules}
+use Rattle.std.proofs.Common.{length, sym, ap, ◌∙◌, arith}
 use Rattle.std.proofs.lemmas.List.{length-take}
 use Rattle.turn_file.specs.declared.field.Field.TheVariants.{LevelCount}
 use Rattle.turn_file.specs.Plan.{plan_numbers, workers_of}

@@ -1,4 +1,4 @@
-use Rattle.std.proofs.Common.{sym, ◌∙◌, arith, rules}
+use Rattle.std.proofs.Common.{sym, ◌∙◌, arith}
 use Rattle.turn_file.specs.Plan.{plan_numbers}
 use Rattle.turn_file.proofs.Apart.{not_both}
 use Rattle.turn_writer.proofs.Sizes.{header_past}

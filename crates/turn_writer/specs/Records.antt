@@ -1,5 +1,6 @@
 -- The records of a plan: its used numbers, in the order of a file. Two plans are the same where these are.
-use Rattle.std.specs.Prelude.{ℕ, ◌+◌, cond, List, [], ◌∷◌, ◌++◌, ◌==◌}
+use Rattle.std.specs.Prelude.{◌≡◌, ℕ, ◌+◌, ◌^◌, ◌<◌, cond, List, [], ◌∷◌, ◌++◌, length, ◌==◌}
+use Rattle.std.specs.List.{flat_map}
 use Rattle.turn_file.specs.declared.plan.Level.{Level}
 use Rattle.turn_file.specs.declared.plan.Script.{Script}
 use Rattle.turn_file.specs.Order.{record_spelling, spelling}
@@ -52,6 +53,11 @@ levels_spelling rank ls = spelling (level_records rank ls)
 
 abbrev pub scripts_spelling : ℕ → List Script → List ℕ
 scripts_spelling worker ss = spelling (script_records worker ss)
+
+-- entries that are their own spelling, and a count of them that is a number
+pub record Plain (es : List ℕ) : Type 0 where
+  pub own : flat_map spell es ≡ es
+  pub counted : length es < 2 ^ 32
 
 -- the bytes of all that stands before the count of entries, and of the entries with their count
 abbrev pub header_spelling : PlanNumbers → List ℕ

@@ -5,7 +5,7 @@ ghost use Rattle.std.specs.Prelude.{◌≡◌, ◌^◌, ◌<◌, ◌≤◌, leng
 ghost use Rattle.std.specs.List.{AllByRecursion};
 ghost use Rattle.turn_file.specs.Fault.{longest_file};
 ghost use Rattle.turn_file.specs.Plan.{plan_numbers};
-ghost use Rattle.turn_writer.specs.Judgement.{past, past_field, past_limit, past_level, past_levels, past_script};
+ghost use Rattle.turn_writer.specs.Judgement.{past, past_field, past_level, past_levels, past_script};
 ghost use Rattle.turn_writer.specs.Judgement.{past_scripts, past_entries, past_entry_count, past_schedule};
 ghost use Rattle.turn_writer.specs.Judgement.{past_header, file_length};
 ghost use Rattle.turn_writer.specs.Shape.{Word, Shape, Known};
@@ -33,25 +33,17 @@ fn past_field(at: usize, field: Field, value: u32) -> Result<usize, RecordFault>
     Ok(past(at, value))
 }
 
-// The top level, which has no level above it, has no handoff limit.
-fn past_handoff_limit(at: usize, rank: usize, limit: u32) -> Result<usize, RecordFault>
-    requires { at < 2 ^ 32 }
-    ensures { result ≡ past_limit rank limit at }
-{
-    if rank == 0 {
-        return Ok(at);
-    }
-    past_field(at, Field::HandoffLimit, limit)
-}
-
-// A level with `rank` levels above it, which have `parties` parties.
+// A level with `rank` levels above it, which have `parties` parties. The top level has no handoff limit.
 fn past_level(at: usize, rank: usize, parties: u32, level: &Level) -> Result<usize, RecordFault>
     requires { at < 2 ^ 31 }
     ensures { result ≡ past_level rank parties level.now at }
 {
     let at_fan_out = past(at, u32::from(level.algorithm));
     let at_limit = past_field(at_fan_out, Field::FanOut { parties }, level.fan_out)?;
-    past_handoff_limit(at_limit, rank, level.handoff_limit)
+    if rank == 0 {
+        return Ok(at_limit);
+    }
+    past_field(at_limit, Field::HandoffLimit, level.handoff_limit)
 }
 
 fn past_levels(at: usize, levels: &[Level]) -> Result<usize, RecordFault>

@@ -22,8 +22,7 @@ impl<'a> Pen<'a> {
         requires { Room (byte ∷ []) (page self.old) }
         ensures { page self.new ≡ written (byte ∷ []) (page self.old) }
     {
-        self.out[self.at] = byte;
-        self.at += 1;
+        self.write_bytes(&[byte]);
     }
 
     pub(crate) fn write_bytes(&mut self, bytes: &[u8])

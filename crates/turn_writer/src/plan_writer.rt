@@ -1,11 +1,9 @@
 // Writes a whole plan.
-ghost use Rattle.std.specs.Prelude.{◌≡◌, ◌^◌, ◌<◌, ◌≤◌, ◌++◌, length, drop};
-ghost use Rattle.std.specs.List.{flat_map};
+ghost use Rattle.std.specs.Prelude.{◌≡◌, ◌≤◌, ◌++◌, length, drop};
 ghost use Rattle.turn_file.specs.Plan.{plan_numbers};
-ghost use Rattle.turn_file.specs.Spelling.{spell};
 ghost use Rattle.turn_writer.specs.Judgement.{file_length};
 ghost use Rattle.turn_writer.specs.Page.{page, Room, written};
-ghost use Rattle.turn_writer.specs.Records.{header_spelling, schedule_spelling, plan_spelling};
+ghost use Rattle.turn_writer.specs.Records.{header_spelling, schedule_spelling, plan_spelling, Plain};
 ghost use Rattle.turn_writer.specs.Writing.{written_length, output_after, Writes, Measures};
 
 use crate::judge::past_plan;
@@ -25,10 +23,9 @@ fn write_header(pen: &mut Pen<'_>, plan: &Plan<'_>)
     write_scripts(pen, plan.used_scripts());
 }
 
-// Each entry is its own spelling, a byte below 128.
+// Entries are copied, since each is its own spelling.
 fn write_schedule(pen: &mut Pen<'_>, entries: &[u8])
-    requires plain { flat_map spell entries.now ≡ entries.now }
-    requires few { length entries.now < 2 ^ 32 }
+    requires plain { Plain entries.now }
     requires room { Room (schedule_spelling entries.now) (page pen.old) }
     ensures { page pen.new ≡ written (schedule_spelling entries.now) (page pen.old) }
 {
@@ -37,8 +34,7 @@ fn write_schedule(pen: &mut Pen<'_>, entries: &[u8])
 }
 
 fn write_records(pen: &mut Pen<'_>, plan: &Plan<'_>)
-    requires plain { flat_map spell (plan_numbers plan.now).entries ≡ (plan_numbers plan.now).entries }
-    requires few { length (plan_numbers plan.now).entries < 2 ^ 32 }
+    requires plain { Plain (plan_numbers plan.now).entries }
     requires room { Room (plan_spelling (plan_numbers plan.now)) (page pen.old) }
     ensures { page pen.new ≡ written (plan_spelling (plan_numbers plan.now)) (page pen.old) }
 {
@@ -48,8 +44,7 @@ fn write_records(pen: &mut Pen<'_>, plan: &Plan<'_>)
 
 // Writes the file of a plan into the front of an output that has space for it.
 fn write_file(plan: &Plan<'_>, out: &mut [u8])
-    requires plain { flat_map spell (plan_numbers plan.now).entries ≡ (plan_numbers plan.now).entries }
-    requires few { length (plan_numbers plan.now).entries < 2 ^ 32 }
+    requires plain { Plain (plan_numbers plan.now).entries }
     requires space { length (plan_spelling (plan_numbers plan.now)) ≤ length out.old }
     ensures { let file = plan_spelling (plan_numbers plan.now) in out.new ≡ file ++ drop (length file) out.old }
 {

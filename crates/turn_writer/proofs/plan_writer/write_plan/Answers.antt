@@ -18,7 +18,6 @@ write_file-requires c =
     let a = plan_accepted p c.in_ok-length.length c.past_plan.ensures.known.shape is in
     record {
       plain = a.plain;
-      few = omega (arith, a.few);
       space = omega (arith, a.long, c.if-length-out.false);
     }
 

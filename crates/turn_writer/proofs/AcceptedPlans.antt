@@ -1,5 +1,5 @@
 -- A plan whose file has a length: all its records come in order, and the file is their spelling.
-use Rattle.std.proofs.Common.{◌≡◌, ℕ, ◌+◌, ◌<◌, ◌≤◌, Bool, true, false, cond, ltb, List, [], ◌∷◌, length, Ok, Err, Result, sym, refl, ap, ◌∙◌, arith}
+use Rattle.std.proofs.Common.{◌≡◌, ℕ, ◌+◌, ◌<◌, ◌≤◌, ltb, List, [], ◌∷◌, length, Ok, Err, Result, sym, refl, ap, ◌∙◌, arith}
 use Rattle.std.proofs.lemmas.List.{length-take}
 use Rattle.std.proofs.lemmas.Bool.{ltb-false}
 use Rattle.std.proofs.lemmas.Bool.Decides.{nat_tests}
@@ -27,6 +27,7 @@ use Rattle.turn_writer.proofs.AcceptedRecords.{in_order_both, product, levels_re
 use Rattle.turn_writer.proofs.AcceptedRecords.{scripts_reach, scripts_come, entries_come}
 use Rattle.turn_writer.proofs.Parts.{sizes}
 use Rattle.turn_writer.proofs.Sizes.{field_past}
+use Rattle.turn_writer.proofs.Refusals.{kept}
 
 -- what was judged first, and what came of it
 pub header_ok : (r : Result ℕ RecordFault) (next : ℕ → Result ℕ FileFault) (n : ℕ) → in_file_order r next ≡ Ok n →
@@ -38,11 +39,6 @@ pub counted_ok : (r : Result ℕ FileFault) (next : ℕ → Result ℕ FileFault
     (a : ℕ) × (r ≡ Ok a) × (next a ≡ Ok n)
 counted_ok (Ok a) next n is = (a, refl, is)
 counted_ok (Err f) next n is = absurd (not_both (sym is))
-
--- a length that was not refused
-short_enough : (long : Bool) (f : FileFault) (x n : ℕ) → cond long (Err f) (Ok x) ≡ Ok n → (long ≡ false) × (x ≡ n)
-short_enough true f x n is = absurd (not_both (sym is))
-short_enough false f x n is = (refl, cc)
 
 -- what holds of a plan that is accepted
 pub record Accepted (count : ℕ) (ls : List Level) (ss : List Script) (es : List ℕ) (n : ℕ) : Type 0 where
@@ -57,9 +53,9 @@ schedule_accepted : (workers : ℕ) (es : List ℕ) (at n : ℕ) → past_schedu
     × (n ≤ longest_file) × (length es ≤ longest_file)
 schedule_accepted workers es at n is =
     let c = counted_ok (past_entry_count es at) _ n is in
-    let k = short_enough (ltb longest_file (length es)) TooLong (past (length es) at) c.0 c.1 in
+    let k = kept (ltb longest_file (length es)) TooLong (past (length es) at) c.0 c.1 in
     let b = header_ok (past_entries workers es c.0) within_file n c.2 in
-    let w = short_enough (ltb longest_file b.0) TooLong b.0 n b.2 in
+    let w = kept (ltb longest_file b.0) TooLong b.0 n b.2 in
     let m = entries_come workers es c.0 b.0 b.1 in (
       m.0,
       omega (arith, m.1, k.1, w.1),

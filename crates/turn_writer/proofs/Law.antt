@@ -20,6 +20,7 @@ use Rattle.turn_writer.proofs.Again.{records_again}
 use Rattle.turn_writer.proofs.Bytes.{spelling_bytes}
 use Rattle.turn_writer.proofs.RefusedPlans.{plan_stops, plan_too_long, plan_fault}
 use Rattle.turn_writer.proofs.AcceptedPlans.{plan_accepted}
+use Rattle.turn_writer.proofs.Refusals.{kept}
 
 -- what a reader says of records in order that are not too long: it accepts their spelling, and reads what they say
 pub reads_records : (items : List Item) → InOrder stage.Levels items stage.End →
@@ -54,12 +55,8 @@ read_records file q each is =
 
 -- an answer, where the output has so much space
 spaced_ok : (space : ℕ) (x : Result ℕ FileFault) (n : ℕ) → with_space space x ≡ Ok n → (x ≡ Ok n) × (n ≤ space)
-spaced_ok space (Ok m) n is = by_test (ltb space m) refl is
-  where
-    by_test : (short : Bool) → ltb space m ≡ short → cond short (Err OutputTooShort) (Ok m) ≡ Ok n →
-        (◌≡◌ {A = Result ℕ FileFault} (Ok m) (Ok n)) × (n ≤ space)
-    by_test true test is = absurd (not_both (sym is))
-    by_test false test is = let same : m ≡ n = cc in (ap Ok same, omega (arith, same, ltb-false space m test))
+spaced_ok space (Ok m) n is =
+    let k = kept (ltb space m) OutputTooShort m n is in (ap Ok k.1, omega (arith, k.1, ltb-false space m k.0))
 spaced_ok space (Err f) n is = absurd (not_both (sym is))
 
 spaced_err : (space : ℕ) (x : Result ℕ FileFault) (g : FileFault) → with_space space x ≡ Err g →

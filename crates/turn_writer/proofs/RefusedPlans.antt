@@ -1,5 +1,5 @@
 -- Why a plan is refused: by one of its records, or by its length.
-use Rattle.std.proofs.Common.{◌≡◌, ℕ, zero, suc, ◌+◌, ◌/◌, ◌%◌, ◌<◌, ◌≤◌, Bool, true, false, cond, ltb, ◌⊎◌, List, [], ◌∷◌, length, take, Ok, Err, Result, sym, refl, ap, ◌∙◌, inl, inr, arith, length-append}
+use Rattle.std.proofs.Common.{◌≡◌, ℕ, zero, suc, ◌+◌, ◌<◌, ◌≤◌, Bool, true, false, cond, ltb, ◌⊎◌, List, [], ◌∷◌, length, take, Ok, Err, Result, sym, refl, ap, ◌∙◌, inl, inr, arith, length-append}
 use Rattle.std.proofs.lemmas.Bool.{ltb-true, ltb-false}
 use Rattle.std.specs.List.{flat_map, AllByRecursion}
 use Rattle.turn_file.specs.declared.fault.FileFault.{FileFault}
@@ -10,8 +10,7 @@ use Rattle.turn_file.specs.declared.step.Stage.TheVariants as stage
 use Rattle.turn_file.specs.Fault.{in_file, longest_file}
 use Rattle.turn_file.specs.Plan.{PlanNumbers, used_levels, workers_of, used_scripts}
 use Rattle.turn_file.specs.Record.{bind}
-use Rattle.turn_file.specs.Spelling.{spell_in, spell}
-use Rattle.turn_file.proofs.Apart.{not_both}
+use Rattle.turn_file.specs.Spelling.{spell}
 use Rattle.turn_file.proofs.Refused.{bind_err}
 use Rattle.turn_file.proofs.Fields.{bind_ok}
 use Rattle.turn_writer.specs.Judgement.{past, past_field, past_levels, past_scripts, past_header, past_entries}
@@ -25,6 +24,8 @@ use Rattle.turn_writer.proofs.Standing.{behind_scripts, schedule_stops}
 use Rattle.turn_writer.proofs.Parts.{sizes}
 use Rattle.turn_writer.proofs.Stops.{Stopped}
 use Rattle.turn_writer.proofs.AcceptedPlans.{count_used, used_sizes}
+use Rattle.turn_writer.proofs.Refusals.{refused}
+use Rattle.std.proofs.lemmas.Bool.Decides.{nat_tests}
 
 every_take : {X : Type 0} (P : X → Type 0) (n : ℕ) (xs : List X) → AllByRecursion P xs → AllByRecursion P (take n xs)
 every_take P zero xs each = tt
@@ -67,12 +68,6 @@ in_order_err : (r : Result ℕ RecordFault) (next : ℕ → Result ℕ FileFault
 in_order_err (Ok a) next g is = inr (a, refl, is)
 in_order_err (Err f) next g is = inl (f, refl, cc)
 
--- a length that was refused
-too_long : (long : Bool) (n : ℕ) (g : FileFault) → cond long (Err TooLong) (Ok n) ≡ Err g → (long ≡ true)
-    × (g ≡ TooLong)
-too_long true n g is = (refl, cc)
-too_long false n g is = absurd (not_both is)
-
 -- why a schedule is refused: it has too many entries, an entry is no worker, or the file ends too late
 data ScheduleFault (workers : ℕ) (es : List ℕ) (at : ℕ) (g : FileFault) : Type 0 where
   too_many : longest_file < length es → g ≡ TooLong → ScheduleFault workers es at g
@@ -94,8 +89,8 @@ schedule_fault workers es at g is = by_count (ltb longest_file (length es)) refl
         elim (in_order_err (past_entries workers es (past (length es) at)) within_file g is) [
           | inl e ↦ no_worker e.0 (ltb-false longest_file (length es) test) e.1 e.2
           | inr e ↦
-              let k = too_long (ltb longest_file e.0) e.0 g e.2 in
-              ends_late e.0 e.1 (ltb-true longest_file e.0 k.0) k.1
+              let k = refused (ltb longest_file e.0) TooLong g e.0 e.2 in
+              ends_late e.0 e.1 (ltb-true longest_file e.0 k.0) (sym k.1)
         ]
 
 -- what holds of a plan whose header is not refused
@@ -162,11 +157,7 @@ plan_stops p f known is =
     by_fault {at} h (ends_late end is late wrong) words = absurd (cc wrong)
 
 spell_some : (v : ℕ) → 1 ≤ length (spell v)
-spell_some v = by_test (ltb v 128)
-  where
-    by_test : (last : Bool) → 1 ≤ length (cond last (v ∷ []) ((128 + v % 128) ∷ spell_in 4 (v / 128)))
-    by_test true = omega arith
-    by_test false = omega arith
+spell_some v = grind (arith, nat_tests)
 
 -- each entry takes a byte at least
 entries_long : (es : List ℕ) → length es ≤ length (flat_map spell es)

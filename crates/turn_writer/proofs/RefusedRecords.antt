@@ -1,5 +1,5 @@
 -- A record that is refused: a reader refuses it where its spelling stands, with the same fault.
-use Rattle.std.proofs.Common.{◌≡◌, ℕ, Bool, true, false, cond, eqb, List, [], ◌∷◌, length, Ok, Err, Result, sym, ap, ◌∙◌, inl, inr}
+use Rattle.std.proofs.Common.{◌≡◌, ℕ, cond, eqb, List, [], ◌∷◌, length, Ok, Err, Result, sym, ap, ◌∙◌, inl, inr}
 use Rattle.std.proofs.lemmas.Bool.Decides.{eqb_tells}
 use Rattle.std.specs.List.{flat_map, AllByRecursion}
 use Rattle.turn_file.specs.declared.fault.RecordFault.{RecordFault}
@@ -24,6 +24,7 @@ use Rattle.turn_writer.specs.Judgement.{past, past_field, past_limit, past_level
 use Rattle.turn_writer.specs.Records.{level_spelling, script_spelling}
 use Rattle.turn_writer.specs.Shape.{Word, LevelWords, ScriptWords}
 use Rattle.turn_writer.proofs.Sizes.{field_past}
+use Rattle.turn_writer.proofs.Refusals.{refused}
 
 -- nothing comes of what was refused
 pub stop : {A B : Type 0} (next : A → Result B RecordFault) {r : Result A RecordFault} {f : RecordFault} → r ≡ Err f →
@@ -35,16 +36,11 @@ module _ (file : List ℕ) where
   pub field_refused : (field : Field) (n at to : ℕ) (g : RecordFault) → Word n → Stands (spell n) file at to →
       past_field field n at ≡ Err g → value_at field file at ≡ Err g
   field_refused field n at to g small s is =
+      let k = refused (field_refuses field n) (field_fault field at) g (past n at) is in
+      let judged : ℕ × ℕ → Result (ℕ × ℕ) RecordFault =
+      λ m. cond (field_refuses field m.0) (Err (field_fault field at)) (Ok m) in
       ap (λ r. judge (with_kind (field_kind field) r) judged) (spelled_number file at n to small s)
-      ∙ refused_too (field_refuses field n) is
-    where
-      judged : ℕ × ℕ → Result (ℕ × ℕ) RecordFault
-      judged m = cond (field_refuses field m.0) (Err (field_fault field at)) (Ok m)
-
-      refused_too : (bad : Bool) → cond bad (Err (field_fault field at)) (Ok (past n at)) ≡ Err g →
-          cond {A = Result (ℕ × ℕ) RecordFault} bad (Err (field_fault field at)) (Ok (n, to)) ≡ Err g
-      refused_too true e = cc
-      refused_too false e = absurd (not_both e)
+      ∙ ap (λ bad. cond bad (Err (field_fault field at)) (Ok (n, to))) k.0 ∙ ap Err k.1
 
   -- or reads it
   field_read : (field : Field) (n at to next : ℕ) → Word n → Stands (spell n) file at to →

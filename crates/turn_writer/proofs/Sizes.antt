@@ -1,5 +1,6 @@
 -- How far a number, a level and a script reach.
-use Rattle.std.proofs.Common.{◌≡◌, ℕ, zero, suc, ◌+◌, ◌*◌, ◌/◌, ◌%◌, ◌≤◌, Bool, true, false, cond, eqb, ltb, List, [], ◌∷◌, length, Ok, Err, sym, refl, arith}
+use Rattle.std.proofs.Common.{◌≡◌, ℕ, zero, suc, ◌+◌, ◌*◌, ◌/◌, ◌≤◌, false, List, [], ◌∷◌, length, Ok, sym, inl, inr, arith}
+use Rattle.std.proofs.lemmas.Bool.Decides.{nat_tests, eqb_tells}
 use Rattle.std.proofs.lemmas.List.{length-take}
 use Rattle.turn_file.specs.declared.field.Field.{Field}
 use Rattle.turn_file.specs.declared.field.Field.TheVariants.{LevelCount, FanOut, HandoffLimit, ScriptNumber}
@@ -9,19 +10,14 @@ use Rattle.turn_file.specs.Plan.{PlanNumbers, used_levels, workers_of, used_scri
 use Rattle.turn_file.specs.Algorithm.{algorithm_number}
 use Rattle.turn_file.specs.Field.{field_refuses, field_fault}
 use Rattle.turn_file.specs.Spelling.{spell_in, spell}
-use Rattle.turn_file.proofs.Apart.{not_both}
 use Rattle.turn_file.proofs.Fields.{bind_ok, fan_out_fits}
+use Rattle.turn_writer.proofs.Refusals.{kept}
 use Rattle.turn_writer.specs.Judgement.{past, past_field, past_limit, past_level, past_levels}
 use Rattle.turn_writer.specs.Judgement.{past_script, past_scripts, past_header}
 
-one_more : (last : Bool) (left v : ℕ) (rest : List ℕ) → length rest ≤ left →
-    length (cond last (v ∷ []) ((128 + v % 128) ∷ rest)) ≤ suc left
-one_more true left v rest few = omega arith
-one_more false left v rest few = omega arith
-
 groups_few : (left v : ℕ) → length (spell_in left v) ≤ left
 groups_few zero v = omega arith
-groups_few (suc left) v = one_more (ltb v 128) left v (spell_in left (v / 128)) (groups_few left (v / 128))
+groups_few (suc left) v = grind (arith, nat_tests, groups_few left (v / 128))
 
 -- a number takes at most five bytes
 pub spell_few : (v : ℕ) → length (spell v) ≤ 5
@@ -30,23 +26,19 @@ spell_few v = groups_few 5 v
 -- a number that was not refused
 pub field_past : (field : Field) (n at next : ℕ) → past_field field n at ≡ Ok next →
     (field_refuses field n ≡ false) × (next ≡ past n at)
-field_past field n at next e = by_test (field_refuses field n) e
-  where
-    by_test : (bad : Bool) → cond bad (Err (field_fault field at)) (Ok (past n at)) ≡ Ok next → (bad ≡ false)
-        × (next ≡ past n at)
-    by_test true is = absurd (not_both (sym is))
-    by_test false is = (refl, cc)
+field_past field n at next e =
+    let k = kept (field_refuses field n) (field_fault field at) (past n at) next e in (k.0, sym k.1)
 
 -- it takes at most five bytes
 pub field_near : (field : Field) (n at next : ℕ) → past_field field n at ≡ Ok next → next ≤ at + 5
 field_near field n at next is = omega (arith, (field_past field n at next is).1, spell_few n)
 
 pub limit_past : (rank n at next : ℕ) → past_limit rank n at ≡ Ok next → next ≤ at + 5
-limit_past rank n at next e = by_rank (eqb rank 0) e
-  where
-    by_rank : (top : Bool) → cond top (Ok at) (past_field HandoffLimit n at) ≡ Ok next → next ≤ at + 5
-    by_rank true is = let same : at ≡ next = cc in omega arith
-    by_rank false is = field_near HandoffLimit n at next is
+limit_past rank n at next e =
+    elim (eqb_tells rank 0) [
+      | inl t ↦ let is = simp t.0 at e in let same : at ≡ next = cc in omega arith
+      | inr t ↦ field_near HandoffLimit n at next (simp t.0 at e)
+    ]
 
 -- a level that was not refused
 pub level_past : (rank parties : ℕ) (l : Level) (at next : ℕ) → past_level rank parties l at ≡ Ok next →

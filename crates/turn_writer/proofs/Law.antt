@@ -1,6 +1,6 @@
 -- The law of a writer.
 use Rattle.std.proofs.Common.{◌≡◌, ℕ, ◌<◌, ◌≤◌, Bool, true, false, cond, ltb, ◌⊎◌, List, length, Ok, Err, fold, Result, sym, refl, ap, ◌∙◌, subst, inl, inr, arith}
-use Rattle.std.proofs.lemmas.Bool.{cases_lt, le-ltb, ltb-true, ltb-false}
+use Rattle.std.proofs.lemmas.Bool.{cases_lt, lt-ltb, le-ltb, ltb-true, ltb-false}
 use Rattle.turn_file.specs.declared.fault.FileFault.{FileFault}
 use Rattle.turn_file.specs.declared.fault.FileFault.TheVariants.{TooLong, OutputTooShort, TrailingByte}
 use Rattle.turn_file.specs.declared.fault.RecordFault.{RecordFault}
@@ -61,13 +61,11 @@ spaced_ok space (Err f) n is = absurd (not_both (sym is))
 
 spaced_err : (space : ℕ) (x : Result ℕ FileFault) (g : FileFault) → with_space space x ≡ Err g →
     (x ≡ Err g) ⊎ ((n : ℕ) × (x ≡ Ok n) × (space < n) × (g ≡ OutputTooShort))
-spaced_err space (Ok m) g is = by_test (ltb space m) refl is
-  where
-    by_test : (short : Bool) → ltb space m ≡ short → cond short (Err OutputTooShort) (Ok m) ≡ Err g →
-        (◌≡◌ {A = Result ℕ FileFault} (Ok m) (Err g))
-        ⊎ ((n : ℕ) × (◌≡◌ {A = Result ℕ FileFault} (Ok m) (Ok n)) × (space < n) × (g ≡ OutputTooShort))
-    by_test true test is = inr (m, refl, ltb-true space m test, cc)
-    by_test false test is = inl is
+spaced_err space (Ok m) g is =
+    elim (cases_lt space m) [
+      | inl short ↦ let e = simp (lt-ltb space m short) at is in inr (m, refl, short, cc)
+      | inr fits ↦ inl (simp (le-ltb space m fits) at is)
+    ]
 spaced_err space (Err f) g is = inl is
 
 module _ (p : PlanNumbers) (known : Known p) where

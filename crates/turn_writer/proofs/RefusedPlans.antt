@@ -1,6 +1,6 @@
 -- Why a plan is refused: by one of its records, or by its length.
 use Rattle.std.proofs.Common.{◌≡◌, ℕ, zero, suc, ◌+◌, ◌<◌, ◌≤◌, Bool, true, false, cond, ltb, ◌⊎◌, List, [], ◌∷◌, length, take, Ok, Err, Result, sym, refl, ap, ◌∙◌, inl, inr, arith, length-append}
-use Rattle.std.proofs.lemmas.Bool.{ltb-true, ltb-false}
+use Rattle.std.proofs.lemmas.Bool.{cases_lt, lt-ltb, le-ltb, ltb-true}
 use Rattle.std.specs.List.{flat_map, AllByRecursion}
 use Rattle.turn_file.specs.declared.fault.FileFault.{FileFault}
 use Rattle.turn_file.specs.declared.fault.FileFault.TheVariants.{TooLong}
@@ -78,20 +78,18 @@ data ScheduleFault (workers : ℕ) (es : List ℕ) (at : ℕ) (g : FileFault) : 
 
 schedule_fault : (workers : ℕ) (es : List ℕ) (at : ℕ) (g : FileFault) → past_schedule workers es at ≡ Err g →
     ScheduleFault workers es at g
-schedule_fault workers es at g is = by_count (ltb longest_file (length es)) refl is
-  where
-    by_count : (long : Bool) → ltb longest_file (length es) ≡ long →
-        and_then (cond long (Err TooLong) (Ok (past (length es) at)))
-        (λ first. in_file_order (past_entries workers es first) within_file) ≡ Err g →
-        ScheduleFault workers es at g
-    by_count true test is = too_many (ltb-true longest_file (length es) test) cc
-    by_count false test is =
-        elim (in_order_err (past_entries workers es (past (length es) at)) within_file g is) [
-          | inl e ↦ no_worker e.0 (ltb-false longest_file (length es) test) e.1 e.2
-          | inr e ↦
-              let k = refused (ltb longest_file e.0) TooLong g e.0 e.2 in
-              ends_late e.0 e.1 (ltb-true longest_file e.0 k.0) (sym k.1)
-        ]
+schedule_fault workers es at g is =
+    elim (cases_lt longest_file (length es)) [
+      | inl many ↦ let e = simp (lt-ltb longest_file (length es) many) at is in too_many many cc
+      | inr few ↦
+          elim (in_order_err (past_entries workers es (past (length es) at)) within_file g
+          (simp (le-ltb longest_file (length es) few) at is)) [
+            | inl e ↦ no_worker e.0 few e.1 e.2
+            | inr e ↦
+                let k = refused (ltb longest_file e.0) TooLong g e.0 e.2 in
+                ends_late e.0 e.1 (ltb-true longest_file e.0 k.0) (sym k.1)
+          ]
+    ]
 
 -- what holds of a plan whose header is not refused
 record Header (p : PlanNumbers) (at : ℕ) : Type 0 where

@@ -67,7 +67,7 @@ last_level rank count lanes l items long some fits order = record {
 
 pub levels_first : (rank count lanes : ℕ) (items : List Item) → rank < count → 1 ≤ lanes →
     InOrder (stage.Level rank count lanes) items stage.End → LevelsFirst rank count lanes items
-levels_first rank count lanes [] within some same = absurd (let wrong : ◌≡◌ {A = ℕ} 0 1 = cc in omega arith)
+levels_first rank count lanes [] within some same = absurd (cc same)
 levels_first rank count lanes (item ∷ items) within some (next, (l, is, fits, after), order) =
     let here = after ∙ ap (after_level rank count) (lanes_fit rank lanes l fits) in
     let below = some_below lanes l some fits.some in

@@ -1,5 +1,5 @@
 -- Why a plan is refused: by one of its records, or by its length.
-use Rattle.std.proofs.Common.{◌≡◌, ℕ, zero, suc, ◌+◌, ◌<◌, ◌≤◌, Bool, true, false, cond, ltb, ◌⊎◌, List, [], ◌∷◌, length, take, Ok, Err, Result, sym, refl, ap, ◌∙◌, inl, inr, arith, length-append}
+use Rattle.std.proofs.Common.{◌≡◌, ℕ, zero, suc, ◌+◌, ◌<◌, ◌≤◌, ltb, ◌⊎◌, List, [], ◌∷◌, length, take, Ok, Err, Result, sym, refl, ap, ◌∙◌, inl, inr, arith, length-append}
 use Rattle.std.proofs.lemmas.Bool.{cases_lt, lt-ltb, le-ltb, ltb-true}
 use Rattle.std.specs.List.{flat_map, AllByRecursion}
 use Rattle.turn_file.specs.declared.fault.FileFault.{FileFault}
@@ -14,7 +14,7 @@ use Rattle.turn_file.specs.Spelling.{spell}
 use Rattle.turn_file.proofs.Refused.{bind_err}
 use Rattle.turn_file.proofs.Fields.{bind_ok}
 use Rattle.turn_writer.specs.Judgement.{past, past_field, past_levels, past_scripts, past_header, past_entries}
-use Rattle.turn_writer.specs.Judgement.{in_file_order, and_then, within_file, past_schedule}
+use Rattle.turn_writer.specs.Judgement.{in_file_order, within_file, past_schedule}
 use Rattle.turn_writer.specs.Judgement.{file_length}
 use Rattle.turn_writer.specs.Records.{plan_spelling, levels_spelling, scripts_spelling}
 use Rattle.turn_writer.specs.Shape.{Word, Shape, Known}

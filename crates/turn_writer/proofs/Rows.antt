@@ -1,7 +1,8 @@
 -- Rows of levels and of scripts, entered into the tables of a plan.
-use Rattle.std.proofs.Common.{◌≡◌, ℕ, ◌+◌, ◌≤◌, Bool, true, false, cond, eqb, List, [], ◌∷◌, ◌++◌, length, take, set, fold, sym, refl, ap, ◌∙◌, arith}
+use Rattle.std.proofs.Common.{◌≡◌, ℕ, ◌+◌, ◌≤◌, cond, List, [], ◌∷◌, ◌++◌, length, take, set, fold, sym, refl, ap, ◌∙◌, inl, inr, arith}
 use Rattle.std.proofs.lemmas.List.{append-nil, append_assoc, length-set, take_more_set}
 use Rattle.std.proofs.lemmas.Bool.{lt-ltb}
+use Rattle.std.proofs.lemmas.Bool.Decides.{eqb_tells}
 use Rattle.turn_file.specs.declared.plan.Level.{Level}
 use Rattle.turn_file.specs.declared.plan.Script.{Script}
 use Rattle.turn_file.specs.Plan.{PlanNumbers, lanes_below, put, with_item}
@@ -43,15 +44,7 @@ length_used_row rank [] = refl
 length_used_row rank (l ∷ ls) = omega (arith, length_used_row (rank + 1) ls)
 
 used_level_twice : (rank : ℕ) (l : Level) → used_level rank (used_level rank l) ≡ used_level rank l
-used_level_twice rank l = by_rank (eqb rank 0)
-  where
-    limit : Bool → Level → Level
-    limit top l =
-        record { algorithm = l.algorithm; fan_out = l.fan_out; handoff_limit = cond top 0 l.handoff_limit }
-
-    by_rank : (top : Bool) → limit top (limit top l) ≡ limit top l
-    by_rank true = refl
-    by_rank false = refl
+used_level_twice rank l = elim (eqb_tells rank 0) [ inl t ↦ simp t.0 | inr t ↦ simp t.0 ]
 
 -- they have the same records and the same workers
 pub records_used_row : (rank : ℕ) (ls : List Level) → level_records rank (used_row rank ls) ≡ level_records rank ls

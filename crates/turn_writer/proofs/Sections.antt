@@ -31,7 +31,7 @@ one_more_script worker workers s items k = record {
 
 scripts_first : (worker workers : ℕ) (items : List Item) → worker < workers →
     InOrder (stage.Script worker workers) items stage.End → ScriptsFirst worker workers items
-scripts_first worker workers [] within same = absurd (let wrong : ◌≡◌ {A = ℕ} 0 1 = cc in omega arith)
+scripts_first worker workers [] within same = absurd (cc same)
 scripts_first worker workers (item ∷ items) within (next, (s, is, fits, after), order) =
     subst (λ i. ScriptsFirst worker workers (i ∷ items)) (sym is) (elim (cases_lt worker (workers - 1)) [
       | inl more ↦
@@ -56,7 +56,7 @@ none_after_end (item ∷ items) (next, comes, order) = absurd comes
 
 schedule_only : (workers : ℕ) (items : List Item) → InOrder (stage.Schedule workers) items stage.End →
     (es : List ℕ) × (items ≡ schedule es ∷ [])
-schedule_only workers [] same = absurd (let wrong : ◌≡◌ {A = ℕ} 0 1 = cc in omega arith)
+schedule_only workers [] same = absurd (cc same)
 schedule_only workers (item ∷ items) (next, (es, is, few, each, after), order) =
     let none = none_after_end items (subst (λ g. InOrder g items stage.End) after order) in
     (es, ap (λ i. i ∷ items) is ∙ ap (λ xs. schedule es ∷ xs) none)
@@ -90,7 +90,7 @@ joined_parts count items four l s es last = record {
 }
 
 pub in_parts : (items : List Item) → InOrder stage.Levels items stage.End → InParts items
-in_parts [] same = absurd (let wrong : ◌≡◌ {A = ℕ} 0 1 = cc in omega arith)
+in_parts [] same = absurd (cc same)
 in_parts (item ∷ items) (next, (count, is, some, four, after), order) =
     let l = levels_first 0 count 1 items some (omega arith) (subst (λ g. InOrder g items stage.End) after order) in
     let s = scripts_first 0 (fold lanes_below 1 l.row) l.rest l.some l.ordered in

@@ -1,5 +1,5 @@
 -- Which stage comes after a record.
-use Rattle.std.proofs.Common.{◌≡◌, ℕ, ◌+◌, ◌-◌, ◌<◌, ◌≤◌, cond, ap}
+use Rattle.std.proofs.Common.{◌≡◌, ℕ, ◌+◌, ◌-◌, ◌<◌, ◌≤◌}
 use Rattle.std.proofs.lemmas.Bool.{lt-ltb, le-ltb}
 use Rattle.turn_file.specs.declared.step.Stage.TheVariants as stage
 use Rattle.turn_file.specs.Reading.{after_level, after_script}
@@ -8,19 +8,19 @@ use Rattle.turn_file.specs.Reading.{after_level, after_script}
 pub after_level_more : (rank count lanes : ℕ) → rank < count - 1 →
     after_level rank count lanes ≡ stage.Level (rank + 1) count lanes
 after_level_more rank count lanes more =
-    ap (λ t. cond t (stage.Level (rank + 1) count lanes) (stage.Script 0 lanes)) (lt-ltb rank (count - 1) more)
+    simp (lt-ltb rank (count - 1) more)
 
 pub after_level_last : (rank count lanes : ℕ) → count - 1 ≤ rank → after_level rank count lanes ≡ stage.Script 0 lanes
 after_level_last rank count lanes last =
-    ap (λ t. cond t (stage.Level (rank + 1) count lanes) (stage.Script 0 lanes)) (le-ltb rank (count - 1) last)
+    simp (le-ltb rank (count - 1) last)
 
 -- the stage after a script: another script, or the schedule
 pub after_script_more : (worker workers : ℕ) → worker < workers - 1 →
     after_script worker workers ≡ stage.Script (worker + 1) workers
 after_script_more worker workers more =
-    ap (λ t. cond t (stage.Script (worker + 1) workers) (stage.Schedule workers)) (lt-ltb worker (workers - 1) more)
+    simp (lt-ltb worker (workers - 1) more)
 
 pub after_script_last : (worker workers : ℕ) → workers - 1 ≤ worker →
     after_script worker workers ≡ stage.Schedule workers
 after_script_last worker workers last =
-    ap (λ t. cond t (stage.Script (worker + 1) workers) (stage.Schedule workers)) (le-ltb worker (workers - 1) last)
+    simp (le-ltb worker (workers - 1) last)

@@ -8,7 +8,7 @@ use Rattle.turn_file.specs.declared.plan.Script.{Script}
 use Rattle.turn_file.specs.declared.step.Stage.{Stage}
 use Rattle.turn_file.specs.declared.step.Stage.TheVariants as stage
 use Rattle.turn_file.specs.Fault.{in_file}
-use Rattle.turn_file.specs.Order.{record_spelling, spelling, Comes, InOrder}
+use Rattle.turn_file.specs.Order.{record_spelling, spelling, InOrder}
 use Rattle.turn_file.specs.Reading.{Item, level, script, after_level, after_script, in_order, next_step}
 use Rattle.turn_file.specs.Spelling.{Stands}
 use Rattle.turn_file.proofs.Apart.{not_both}
@@ -54,11 +54,6 @@ stopped_later file at from xs to mid f order stands s = record {
   refused = s.refused;
 }
 
--- one record in order
-one_record : (from : Stage) (x : Item) (after mid : Stage) → Comes from x after → after ≡ mid →
-    InOrder from (x ∷ []) mid
-one_record from x after mid comes then = (after, comes, then)
-
 -- the bytes of one record
 pub one_stands : (x : Item) (file : List ℕ) (at to : ℕ) → Stands (record_spelling x) file at to →
     Stands (spelling (x ∷ [])) file at to
@@ -89,7 +84,7 @@ module _ (file : List ℕ) where
             let then = after_level_more rank count below (omega arith) in
             stopped_later file at _ (level rank (used_level rank l) ∷ []) (at + length (level_spelling rank l))
             (stage.Level (rank + 1) count below) f
-            (one_record (stage.Level rank count parties) _ (after_level rank count below) _ k.0 then)
+            (after_level rank count below, k.0, then)
             (one_stands (level rank (used_level rank l)) file at _ split.0)
             (levels_stop (rank + 1) count below m ms _ to f words.1 (omega arith) split.1
             (ap (past_levels (rank + 1) below (m ∷ ms)) (sym k.1) ∙ e.2))
@@ -118,7 +113,7 @@ module _ (file : List ℕ) where
             let then = after_script_more worker workers (omega arith) in
             stopped_later file at _ (script worker t ∷ []) (at + length (script_spelling t))
             (stage.Script (worker + 1) workers) f
-            (one_record (stage.Script worker workers) _ (after_script worker workers) _ (t, refl, k.0, refl) then)
+            (after_script worker workers, (t, refl, k.0, refl), then)
             (one_stands (script worker t) file at _ split.0)
             (scripts_stop (worker + 1) workers u us _ to f words.1 (omega arith) split.1
             (ap (past_scripts (u ∷ us)) (sym k.1) ∙ e.2))

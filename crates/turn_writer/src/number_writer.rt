@@ -18,14 +18,16 @@ pub(crate) fn number_size(value: u32) -> usize
     }
 }
 
-pub(crate) fn write_number(pen: &mut Pen<'_>, value: u32)
-    requires { Room (spell value) (page pen.old) }
-    ensures { page pen.new ≡ written (spell value) (page pen.old) }
-{
-    let mut high = value;
-    while high >= 0x80 {
-        pen.write_byte(0x80 + (high % 0x80) as u8);
-        high /= 0x80;
+impl Pen<'_> {
+    pub(crate) fn write_number(&mut self, value: u32)
+        requires { Room (spell value) (page self.old) }
+        ensures { page self.new ≡ written (spell value) (page self.old) }
+    {
+        let mut high = value;
+        while high >= 0x80 {
+            self.write_byte(0x80 + (high % 0x80) as u8);
+            high /= 0x80;
+        }
+        self.write_byte(high as u8);
     }
-    pen.write_byte(high as u8);
 }

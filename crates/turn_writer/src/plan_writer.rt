@@ -7,7 +7,6 @@ ghost use Rattle.turn_writer.specs.Records.{header_spelling, schedule_spelling, 
 ghost use Rattle.turn_writer.specs.Writing.{written_length, output_after, Writes, Measures};
 
 use crate::judge::past_plan;
-use crate::number_writer::write_number;
 use crate::pen::Pen;
 use crate::record_writer::{write_levels, write_scripts};
 use turn_file::fault::FileFault;
@@ -18,7 +17,7 @@ fn write_header(pen: &mut Pen<'_>, plan: &Plan<'_>)
     requires { Room (header_spelling (plan_numbers plan.now)) (page pen.old) }
     ensures { page pen.new ≡ written (header_spelling (plan_numbers plan.now)) (page pen.old) }
 {
-    write_number(pen, plan.level_count);
+    pen.write_number(plan.level_count);
     write_levels(pen, plan.used_levels());
     write_scripts(pen, plan.used_scripts());
 }
@@ -29,7 +28,7 @@ fn write_schedule(pen: &mut Pen<'_>, entries: &[u8])
     requires room { Room (schedule_spelling entries.now) (page pen.old) }
     ensures { page pen.new ≡ written (schedule_spelling entries.now) (page pen.old) }
 {
-    write_number(pen, entries.len() as u32);
+    pen.write_number(entries.len() as u32);
     pen.write_bytes(entries);
 }
 

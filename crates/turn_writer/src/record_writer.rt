@@ -3,7 +3,6 @@ ghost use Rattle.std.specs.Prelude.{◌≡◌};
 ghost use Rattle.turn_writer.specs.Page.{page, Room, written};
 ghost use Rattle.turn_writer.specs.Records.{level_spelling, script_spelling, levels_spelling, scripts_spelling};
 
-use crate::number_writer::write_number;
 use crate::pen::Pen;
 use turn_file::plan::{Level, Script};
 
@@ -12,10 +11,10 @@ fn write_level(pen: &mut Pen<'_>, rank: usize, level: &Level)
     requires { Room (level_spelling rank level.now) (page pen.old) }
     ensures { page pen.new ≡ written (level_spelling rank level.now) (page pen.old) }
 {
-    write_number(pen, u32::from(level.algorithm));
-    write_number(pen, level.fan_out);
+    pen.write_number(u32::from(level.algorithm));
+    pen.write_number(level.fan_out);
     if rank > 0 {
-        write_number(pen, level.handoff_limit);
+        pen.write_number(level.handoff_limit);
     }
 }
 
@@ -23,9 +22,9 @@ fn write_script(pen: &mut Pen<'_>, script: &Script)
     requires { Room (script_spelling script.now) (page pen.old) }
     ensures { page pen.new ≡ written (script_spelling script.now) (page pen.old) }
 {
-    write_number(pen, script.turns);
-    write_number(pen, script.rest);
-    write_number(pen, script.hold);
+    pen.write_number(script.turns);
+    pen.write_number(script.rest);
+    pen.write_number(script.hold);
 }
 
 pub(crate) fn write_levels(pen: &mut Pen<'_>, levels: &[Level])

@@ -1,5 +1,5 @@
 use Rattle.turn_writer.proofs.Groups.{left_all, left_more}
-use Rattle.turn_writer.proofs.number_writer.write_number.Goals as goal
+use Rattle.turn_writer.proofs.pen.Pen.write_number.Goals as goal
 
 pub loop-high-init : goal.loop-high-init
 loop-high-init c = left_all _ _ c.ranges.value.fits c.requires

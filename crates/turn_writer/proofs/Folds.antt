@@ -24,7 +24,8 @@ module _ {A F : Type 0} (g : Mut F (ℕ × (Bor A × Unit {0})) (Result ℕ Reco
   abbrev pub Turn : F × ℕ → Bor A → F × ℕ → Type 0
   Turn = TryFoldTurn g (FlowsBy result_from_control_flow)
 
-  along : (xs : List (Bor A)) (s t : Iter A) (at : ℕ) (last : F × ℕ) → Yields fronts s xs t → FoldsTo Turn (f, at) xs last →
+  along : (xs : List (Bor A)) (s t : Iter A) (at : ℕ) (last : F × ℕ) → Yields fronts s xs t →
+      FoldsTo Turn (f, at) xs last →
       (last.0 ≡ f) × (past_each one s.rest.now at ≡ past_each one t.rest.now last.1)
   along [] s t at last y c =
       (sym (ap (λ p. p.0) c), ap (λ s. past_each one s.rest.now at) y ∙ ap (λ p. past_each one t.rest.now p.1) c)
@@ -38,7 +39,8 @@ module _ {A F : Type 0} (g : Mut F (ℕ × (Bor A × Unit {0})) (Result ℕ Reco
       )
 
   pub folded : (s u : Iter A) (at : ℕ) (r : Result ℕ RecordFault) →
-      TryFoldsItems fronts g (FlowsBy result_from_control_flow) (λ e r. IsErr r × IsErrAnd r (λ f. f ≡ e.0)) s f at r u →
+      TryFoldsItems fronts g (FlowsBy result_from_control_flow) (λ e r. IsErr r × IsErrAnd r (λ k. k ≡ e.0))
+      s f at r u →
       r ≡ past_each one s.rest.now at
   folded s u at r (xs, None, h, b, (t, y, last), c, ends) =
       ends
@@ -56,7 +58,8 @@ module _ {A F : Type 0} (g : Mut F (ℕ × (Bor A × Unit {0})) (Result ℕ Reco
   -- where each call goes on by so many places at most, and needs the place to be low
   module _ (size high : ℕ) (near : (x : A) (at next : ℕ) → one x at ≡ Ok next → next ≤ at + size)
       (takes : (at : ℕ) (x : Bor A) → at < high → Takes g f (at, (x, tt))) where
-    reach : (xs : List (Bor A)) (s t : Iter A) (at : ℕ) (last : F × ℕ) → Yields fronts s xs t → FoldsTo Turn (f, at) xs last →
+    reach : (xs : List (Bor A)) (s t : Iter A) (at : ℕ) (last : F × ℕ) → Yields fronts s xs t →
+        FoldsTo Turn (f, at) xs last →
         last.1 + size * length t.rest.now ≤ at + size * length s.rest.now
     reach [] s t at last y c = omega (arith, ap (λ s. size * length s.rest.now) y, ap (λ p. p.1) c)
     reach (x ∷ xs) s t at last (i, first, y) (m, (r, called, on), c) =
@@ -66,8 +69,7 @@ module _ {A F : Type 0} (g : Mut F (ℕ × (Bor A × Unit {0})) (Result ℕ Reco
         omega (arith, here, ap (λ items. size * length items) first, rest)
 
     pub served : (s : Iter A) (at : ℕ) → at + size * length s.rest.now < high →
-        CallableAtEachTurn {P = F × ℕ} fronts Turn
-        (λ p x. Takes g p.0 (p.1, (x, tt))) s (f, at)
+        CallableAtEachTurn {P = F × ℕ} fronts Turn (λ p x. Takes g p.0 (p.1, (x, tt))) s (f, at)
     served s at low = record {
       at = λ xs t q x u y c e.
           subst (λ h. Takes g h (q.1, (x, tt))) (sym (along xs s t at q y c).0)

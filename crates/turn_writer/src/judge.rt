@@ -110,12 +110,12 @@ fn past_schedule(at: usize, workers: u32, entries: &[u8]) -> Result<usize, FileF
     Ok(end)
 }
 
-// The count of levels, and what the type of a plan says of its values.
-fn level_count(plan: &Plan<'_>) -> u32
-    ensures count { result ≡ (plan_numbers plan.now).count }
+// The count of levels. A caller also learns what the type of a plan says of its values.
+fn past_level_count(plan: &Plan<'_>) -> Result<usize, RecordFault>
+    ensures end { result ≡ past_field Field.LevelCount (plan_numbers plan.now).count 0 }
     ensures shape { Shape (plan_numbers plan.now) }
 {
-    plan.level_count
+    past_field(0, Field::LevelCount, plan.level_count)
 }
 
 // All that stands before the count of entries.
@@ -123,7 +123,7 @@ fn past_header(plan: &Plan<'_>) -> Result<usize, RecordFault>
     ensures end { result ≡ past_header (plan_numbers plan.now) }
     ensures shape { Shape (plan_numbers plan.now) }
 {
-    let at_levels = past_field(0, Field::LevelCount, level_count(plan))?;
+    let at_levels = past_level_count(plan)?;
     let at_scripts = past_levels(at_levels, plan.used_levels())?;
     past_scripts(at_scripts, plan.used_scripts())
 }

@@ -8,9 +8,9 @@ use Rattle.turn_writer.proofs.judge.past_header.Goals as goal
 pub past_levels-requires : goal.past_levels-requires
 past_levels-requires c =
     let p = plan_numbers c.args.plan.now in
-    let shape = c.level_count.ensures.shape in
-    let front = field_near LevelCount c.level_count.result 0 c.in_ok-at_levels.at_levels
-    (sym c.past_field.ensures ∙ c.in_ok-at_levels.was) in (
+    let shape = c.past_level_count.ensures.shape in
+    let front = field_near LevelCount p.count 0 c.in_ok-at_levels.at_levels
+    (sym c.past_level_count.ensures.end ∙ c.in_ok-at_levels.was) in (
       omega (arith, front),
       omega (arith, shape.four, ap length c.used_levels.ensures, length-take p.count p.levels),
     )
@@ -18,9 +18,9 @@ past_levels-requires c =
 pub past_scripts-requires : goal.past_scripts-requires
 past_scripts-requires c =
     let p = plan_numbers c.args.plan.now in
-    let shape = c.level_count.ensures.shape in
-    let front = field_near LevelCount c.level_count.result 0 c.in_ok-at_levels.at_levels
-    (sym c.past_field.ensures ∙ c.in_ok-at_levels.was) in
+    let shape = c.past_level_count.ensures.shape in
+    let front = field_near LevelCount p.count 0 c.in_ok-at_levels.at_levels
+    (sym c.past_level_count.ensures.end ∙ c.in_ok-at_levels.was) in
     let far = levels_past 0 1 c.used_levels.result.now c.in_ok-at_levels.at_levels
     c.in_ok-at_scripts.at_scripts (sym c.past_levels.ensures ∙ c.in_ok-at_scripts.was) in (
       omega (arith, front, far, shape.four, ap length c.used_levels.ensures, length-take p.count p.levels),

@@ -1,5 +1,5 @@
 use Rattle.turn_writer.proofs.Typed.{levels_words, scripts_words}
-use Rattle.turn_writer.proofs.judge.level_count.Goals as goal
+use Rattle.turn_writer.proofs.judge.past_level_count.Goals as goal
 
 pub returns-clause-shape : goal.returns-clause-shape
 returns-clause-shape c =

@@ -1,5 +1,5 @@
 -- What the types of a plan's fields say of their values.
-use Rattle.std.proofs.Common.{ℕ, suc, ◌<◌, List, [], ◌∷◌, get_or, arith}
+use Rattle.std.proofs.Common.{List, [], ◌∷◌}
 use denote.Array.{each}
 use denote.Shadow.{shadow}
 use mir.Val.{Val}
@@ -8,7 +8,7 @@ use Rattle.turn_file.specs.contracts.plan.Level as level
 use Rattle.turn_file.specs.contracts.plan.Script as script
 use Rattle.turn_file.specs.declared.plan.Level.{Level}
 use Rattle.turn_file.specs.declared.plan.Script.{Script}
-use Rattle.turn_writer.specs.Shape.{Word, LevelWords, ScriptWords}
+use Rattle.turn_writer.specs.Shape.{LevelWords, ScriptWords}
 
 level_words : (l : Level) (u : Val) → shadow ((level.the_row).own_val l (u ∷ [])) → LevelWords l
 level_words l u s = let fields = s.1.1 in (fields.1.0.1, fields.1.1.0.1)
@@ -27,7 +27,3 @@ pub scripts_words : (ts : List Script) (us : List Val) →
 scripts_words [] us s = tt
 scripts_words (t ∷ ts) [] s = absurd s
 scripts_words (t ∷ ts) (u ∷ us) s = (script_words t u s.0, scripts_words ts us s.1)
-
-pub bytes_words : (es : List ℕ) → ((i : ℕ) → get_or es i 0 < 256) → AllByRecursion Word es
-bytes_words [] each = tt
-bytes_words (e ∷ es) each = (omega (arith, each 0), bytes_words es (λ i. each (suc i)))

@@ -5,16 +5,6 @@ use Rattle.turn_file.specs.Plan.{plan_numbers, workers_of}
 use Rattle.turn_writer.proofs.Sizes.{field_near, levels_past}
 use Rattle.turn_writer.proofs.judge.past_header.Goals as goal
 
-pub past_levels-requires : goal.past_levels-requires
-past_levels-requires c =
-    let p = plan_numbers c.args.plan.now in
-    let shape = c.past_level_count.ensures.shape in
-    let front = field_near LevelCount p.count 0 c.in_ok-at_levels.at_levels
-    (sym c.past_level_count.ensures.end ∙ c.in_ok-at_levels.was) in (
-      omega (arith, front),
-      omega (arith, shape.four, ap length c.used_levels.ensures, length-take p.count p.levels),
-    )
-
 pub past_scripts-requires : goal.past_scripts-requires
 past_scripts-requires c =
     let p = plan_numbers c.args.plan.now in

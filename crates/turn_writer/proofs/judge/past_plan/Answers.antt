@@ -1,6 +1,5 @@
 use Rattle.std.proofs.Common.{sym, ◌∙◌, arith}
 use Rattle.turn_file.specs.Plan.{plan_numbers}
-use Rattle.turn_file.proofs.Apart.{not_both}
 use Rattle.turn_writer.proofs.Sizes.{header_past}
 use Rattle.turn_writer.proofs.judge.past_plan.Goals as goal
 
@@ -9,8 +8,3 @@ past_schedule-requires c =
     let shape = c.past_header.ensures.shape in
     let header = sym c.past_header.ensures.end ∙ c.in_ok-at_count.was in
     omega (arith, header_past (plan_numbers c.args.plan.now) _ shape.four shape.sixty_four header)
-
-pub returns-in_err-at_count-clause-known : goal.returns-in_err-at_count-clause-known
-returns-in_err-at_count-clause-known c =
-    let err = sym c.past_header.ensures.end ∙ c.in_err-at_count.was in
-    record { shape = c.past_header.ensures.shape; entries = λ at is. absurd (not_both (sym is ∙ err)) }

@@ -1,5 +1,5 @@
 -- The law of a writer.
-use Rattle.std.proofs.Common.{◌≡◌, ℕ, ◌<◌, ◌≤◌, cond, ltb, ◌⊎◌, List, length, Ok, Err, fold, Result, sym, refl, ap, ◌∙◌, subst, inl, inr, arith}
+use Rattle.std.proofs.Common.{◌≡◌, ℕ, ◌<◌, ◌≤◌, ltb, ◌⊎◌, List, length, Ok, Err, fold, Result, sym, refl, ap, ◌∙◌, subst, inl, inr, arith}
 use Rattle.std.proofs.lemmas.Bool.{cases_lt, lt-ltb, le-ltb, ltb-false}
 use Rattle.turn_file.specs.declared.fault.FileFault.{FileFault}
 use Rattle.turn_file.specs.declared.fault.FileFault.TheVariants.{TooLong, OutputTooShort, TrailingByte}
@@ -112,7 +112,7 @@ module _ (p : PlanNumbers) (known : Known p) where
           r.0,
           λ fits.
               ap (with_space space) r.1
-              ∙ ap (λ t. cond t (Err OutputTooShort) (Ok (length file))) (le-ltb space (length file) fits),
+              ∙ simp (le-ltb space (length file) fits),
         );
     refused = λ f is.
         elim (spaced_err space (file_length p) (in_file f) is) [

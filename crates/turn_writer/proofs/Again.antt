@@ -8,7 +8,7 @@ use Rattle.turn_file.specs.Order.{InOrder}
 use Rattle.turn_file.specs.Plan.{PlanNumbers, lanes_below, with_item, blank_plan, no_level, no_script}
 use Rattle.turn_file.specs.Plan.{used_levels, workers_of, used_scripts}
 use Rattle.turn_file.specs.Reading.{Item, levels, schedule}
-use Rattle.turn_writer.specs.Records.{level_records, script_records, records_from, records_of}
+use Rattle.turn_writer.specs.Records.{script_records, records_from, records_of}
 use Rattle.turn_writer.proofs.Rows.{put_row, take_whole_row, used_row, length_used_row, records_used_row}
 use Rattle.turn_writer.proofs.Rows.{workers_used_row, levels_entered, scripts_entered}
 use Rattle.turn_writer.proofs.Sections.{in_parts}
@@ -25,18 +25,7 @@ entered count ls ss es =
 
 records_entered : (count : ℕ) (ls : List Level) (ss : List Script) (es : List ℕ) →
     fold with_item blank_plan (records_from count ls ss es) ≡ entered count ls ss es
-records_entered count ls ss es =
-    let p : PlanNumbers = with_item blank_plan (levels count) in
-    let q : PlanNumbers = record {
-      count = count;
-      levels = put_row 4 (replicate 4 no_level) 0 (used_row 0 ls);
-      scripts = replicate 64 no_script;
-      entries = [];
-    } in
-    fold-append with_item p (level_records 0 ls) (script_records 0 ss ++ (schedule es ∷ []))
-    ∙ ap (λ r. fold with_item r (script_records 0 ss ++ (schedule es ∷ []))) (levels_entered p 0 ls)
-    ∙ fold-append with_item q (script_records 0 ss) (schedule es ∷ [])
-    ∙ ap (λ r. with_item r (schedule es)) (scripts_entered q 0 ss)
+records_entered count ls ss es = simp (fold-append, levels_entered, scripts_entered)
 
 module _ (count : ℕ) (ls : List Level) (ss : List Script) (es : List ℕ) where
   -- what is used of it

@@ -49,9 +49,7 @@ used_level_twice rank l = elim (eqb_tells rank 0) [ inl t ↦ simp t.0 | inr t �
 -- they have the same records and the same workers
 pub records_used_row : (rank : ℕ) (ls : List Level) → level_records rank (used_row rank ls) ≡ level_records rank ls
 records_used_row rank [] = refl
-records_used_row rank (l ∷ ls) =
-    ap (λ m. level rank m ∷ level_records (rank + 1) (used_row (rank + 1) ls)) (used_level_twice rank l)
-    ∙ ap (λ items. level rank (used_level rank l) ∷ items) (records_used_row (rank + 1) ls)
+records_used_row rank (l ∷ ls) = simp (used_level_twice, records_used_row (rank + 1) ls)
 
 pub workers_used_row : (rank lanes : ℕ) (ls : List Level) →
     fold lanes_below lanes (used_row rank ls) ≡ fold lanes_below lanes ls

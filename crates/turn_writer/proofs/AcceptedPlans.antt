@@ -21,7 +21,7 @@ use Rattle.turn_file.proofs.Sound.{entries_short}
 use Rattle.turn_writer.specs.Judgement.{past, past_field, past_levels, past_scripts, past_header, past_entries}
 use Rattle.turn_writer.specs.Judgement.{in_file_order, and_then, past_entry_count, within_file, past_schedule}
 use Rattle.turn_writer.specs.Judgement.{file_length}
-use Rattle.turn_writer.specs.Records.{level_records, script_records, records_from, Plain}
+use Rattle.turn_writer.specs.Records.{level_records, script_records, records_from, IsPlain}
 use Rattle.turn_writer.specs.Shape.{Shape}
 use Rattle.turn_writer.proofs.AcceptedRecords.{in_order_both, product, levels_reach, levels_come, workers_few}
 use Rattle.turn_writer.proofs.AcceptedRecords.{scripts_reach, scripts_come, entries_come}
@@ -45,7 +45,7 @@ pub record Accepted (count : ℕ) (ls : List Level) (ss : List Script) (es : Lis
   pub ordered : InOrder stage.Levels (records_from count ls ss es) stage.End
   pub long : n ≡ length (spelling (records_from count ls ss es))
   pub short : n ≤ longest_file
-  pub plain : Plain es
+  pub plain : IsPlain es
 
 -- a schedule that is not refused
 schedule_accepted : (workers : ℕ) (es : List ℕ) (at n : ℕ) → past_schedule workers es at ≡ Ok n →

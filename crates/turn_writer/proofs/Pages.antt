@@ -1,24 +1,24 @@
 -- Bytes that are written one behind the other.
 use Rattle.std.proofs.Common.{◌≡◌, ℕ, List, ◌++◌, length, sym, ap, ◌∙◌, arith, length-append, length-drop, append_assoc}
 use Rattle.std.proofs.lemmas.List.{drop-drop}
-use Rattle.turn_writer.specs.Page.{Page, Room, written}
+use Rattle.turn_writer.specs.Page.{Page, HasRoom, page_after}
 
 -- what is written one behind the other is written together
-pub written_both : (xs ys : List ℕ) (p : Page) → written ys (written xs p) ≡ written (xs ++ ys) p
-written_both xs ys p = simp (append_assoc, drop-drop, length-append)
+pub page_after_both : (xs ys : List ℕ) (p : Page) → page_after ys (page_after xs p) ≡ page_after (xs ++ ys) p
+page_after_both xs ys p = simp (append_assoc, drop-drop, length-append)
 
 -- there is space for the second behind the first
-pub room_second : (xs ys : List ℕ) (p : Page) → Room (xs ++ ys) p → Room ys (written xs p)
+pub room_second : (xs ys : List ℕ) (p : Page) → HasRoom (xs ++ ys) p → HasRoom ys (page_after xs p)
 room_second xs ys p room = omega (arith, room, length-append xs ys, length-drop (length xs) p.rest)
 
 -- of `whole`, which is to be written on the page `start`, `left` is still to be written
 pub record Writing (whole : List ℕ) (start : Page) (left : List ℕ) (now : Page) : Type 0 where
-  pub same : written left now ≡ written whole start
-  pub room : Room left now
+  pub same : page_after left now ≡ page_after whole start
+  pub room : HasRoom left now
 
 pub one_more : {whole : List ℕ} {start : Page} {rest : List ℕ} {now : Page} (w : Writing whole start rest now)
-    (item left : List ℕ) → rest ≡ item ++ left → Writing whole start left (written item now)
+    (item left : List ℕ) → rest ≡ item ++ left → Writing whole start left (page_after item now)
 one_more {now = now} w item left cut = record {
-  same = written_both item left now ∙ ap (λ bytes. written bytes now) (sym cut) ∙ w.same;
+  same = page_after_both item left now ∙ ap (λ bytes. page_after bytes now) (sym cut) ∙ w.same;
   room = room_second item left now (rw cut at w.room);
 }

@@ -13,13 +13,13 @@ abbrev pub page : Pen → Page
 page p = record { output = p.out.ghost_name; front = take p.at p.out.now; rest = drop p.at p.out.now }
 
 -- nothing is written yet
-abbrev pub blank : MutBor (List ℕ) → Page
-blank out = record { output = out.ghost_name; front = []; rest = out.now }
+abbrev pub blank_page : MutBor (List ℕ) → Page
+blank_page out = record { output = out.ghost_name; front = []; rest = out.now }
 
 -- there is space for these bytes
-abbrev pub Room : List ℕ → Page → Type 0
-Room bytes p = length bytes ≤ length p.rest
+abbrev pub HasRoom : List ℕ → Page → Type 0
+HasRoom bytes p = length bytes ≤ length p.rest
 
 -- once these bytes are written too
-abbrev pub written : List ℕ → Page → Page
-written bytes p = record { output = p.output; front = p.front ++ bytes; rest = drop (length bytes) p.rest }
+abbrev pub page_after : List ℕ → Page → Page
+page_after bytes p = record { output = p.output; front = p.front ++ bytes; rest = drop (length bytes) p.rest }

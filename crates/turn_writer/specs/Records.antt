@@ -55,7 +55,7 @@ abbrev pub scripts_spelling : ℕ → List Script → List ℕ
 scripts_spelling worker ss = spelling (script_records worker ss)
 
 -- entries that are their own spelling, and a count of them that is a number
-pub record Plain (es : List ℕ) : Type 0 where
+pub record IsPlain (es : List ℕ) : Type 0 where
   pub own : flat_map spell es ≡ es
   pub counted : length es < 2 ^ 32
 

@@ -10,7 +10,7 @@ ghost use Rattle.turn_writer.specs.Judgement.{past_scripts, past_entries, past_e
 ghost use Rattle.turn_writer.specs.Judgement.{past_header, file_length};
 ghost use Rattle.turn_writer.specs.Shape.{Word, Shape, Known};
 
-use crate::number_writer::number_size;
+use crate::pen::number_size;
 use turn_file::fault::{FileFault, RecordFault};
 use turn_file::field::Field;
 use turn_file::limits::LONGEST_FILE;

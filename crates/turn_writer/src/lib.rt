@@ -2,7 +2,6 @@
 #![tactic(auto)]
 
 mod judge;
-mod number_writer;
 mod pen;
 pub mod plan_writer;
 mod record_writer;

@@ -1,5 +1,20 @@
-// Writes bytes into an output, one behind the other.
+// Writes bytes and numbers into an output, one behind the other.
+// A number is groups of seven bits, lowest first, the top bit set in all but the last.
 ghost use Rattle.std.specs.Prelude.{◌≡◌, ◌≤◌, [], ◌∷◌, length};
+ghost use Rattle.turn_file.specs.Spelling.{spell};
+
+// How many bytes a number takes.
+pub(crate) fn number_size(value: u32) -> usize
+    ensures { result ≡ length (spell value) }
+{
+    match value {
+        0..=0x7f => 1,
+        0x80..=0x3fff => 2,
+        0x4000..=0x1f_ffff => 3,
+        0x20_0000..=0xfff_ffff => 4,
+        _ => 5,
+    }
+}
 
 // An output, and the place that the next byte goes to.
 #[derive(Drop)]
@@ -10,27 +25,39 @@ pub(crate) struct Pen<'a> {
 }
 
 impl<'a> Pen<'a> {
-    ghost use Rattle.turn_writer.specs.Page.{page, blank, Room, written};
+    ghost use Rattle.turn_writer.specs.Page.{page, blank_page, HasRoom, page_after};
 
     pub(crate) fn new(out: &'a mut [u8]) -> Pen<'a>
-        ensures { page result ≡ blank out.entry }
+        ensures { page result ≡ blank_page out.entry }
     {
         Pen { out, at: 0 }
     }
 
-    pub(crate) fn write_byte(&mut self, byte: u8)
-        requires { Room (byte ∷ []) (page self.old) }
-        ensures { page self.new ≡ written (byte ∷ []) (page self.old) }
-    {
-        self.write_bytes(&[byte]);
-    }
-
     pub(crate) fn write_bytes(&mut self, bytes: &[u8])
-        requires { Room bytes.now (page self.old) }
-        ensures { page self.new ≡ written bytes.now (page self.old) }
+        requires { HasRoom bytes.now (page self.old) }
+        ensures { page self.new ≡ page_after bytes.now (page self.old) }
     {
         let end = self.at + bytes.len();
         self.out[self.at..end].copy_from_slice(bytes);
         self.at = end;
+    }
+
+    fn write_byte(&mut self, byte: u8)
+        requires { HasRoom (byte ∷ []) (page self.old) }
+        ensures { page self.new ≡ page_after (byte ∷ []) (page self.old) }
+    {
+        self.write_bytes(&[byte]);
+    }
+
+    pub(crate) fn write_number(&mut self, value: u32)
+        requires { HasRoom (spell value) (page self.old) }
+        ensures { page self.new ≡ page_after (spell value) (page self.old) }
+    {
+        let mut high = value;
+        while high >= 0x80 {
+            self.write_byte(0x80 + (high % 0x80) as u8);
+            high /= 0x80;
+        }
+        self.write_byte(high as u8);
     }
 }

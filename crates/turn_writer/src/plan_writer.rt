@@ -2,8 +2,8 @@
 ghost use Rattle.std.specs.Prelude.{◌≡◌, ◌≤◌, ◌++◌, length, drop};
 ghost use Rattle.turn_file.specs.Plan.{plan_numbers};
 ghost use Rattle.turn_writer.specs.Judgement.{file_length};
-ghost use Rattle.turn_writer.specs.Page.{page, Room, written};
-ghost use Rattle.turn_writer.specs.Records.{header_spelling, schedule_spelling, plan_spelling, Plain};
+ghost use Rattle.turn_writer.specs.Page.{page, HasRoom, page_after};
+ghost use Rattle.turn_writer.specs.Records.{header_spelling, schedule_spelling, plan_spelling, IsPlain};
 ghost use Rattle.turn_writer.specs.Writing.{written_length, output_after, Writes, Measures};
 
 use crate::judge::past_plan;
@@ -14,8 +14,8 @@ use turn_file::plan::Plan;
 
 // All that stands before the count of entries.
 fn write_header(pen: &mut Pen<'_>, plan: &Plan<'_>)
-    requires { Room (header_spelling (plan_numbers plan.now)) (page pen.old) }
-    ensures { page pen.new ≡ written (header_spelling (plan_numbers plan.now)) (page pen.old) }
+    requires { HasRoom (header_spelling (plan_numbers plan.now)) (page pen.old) }
+    ensures { page pen.new ≡ page_after (header_spelling (plan_numbers plan.now)) (page pen.old) }
 {
     pen.write_number(plan.level_count);
     write_levels(pen, plan.used_levels());
@@ -24,18 +24,18 @@ fn write_header(pen: &mut Pen<'_>, plan: &Plan<'_>)
 
 // Entries are copied, since each is its own spelling.
 fn write_schedule(pen: &mut Pen<'_>, entries: &[u8])
-    requires plain { Plain entries.now }
-    requires room { Room (schedule_spelling entries.now) (page pen.old) }
-    ensures { page pen.new ≡ written (schedule_spelling entries.now) (page pen.old) }
+    requires plain { IsPlain entries.now }
+    requires room { HasRoom (schedule_spelling entries.now) (page pen.old) }
+    ensures { page pen.new ≡ page_after (schedule_spelling entries.now) (page pen.old) }
 {
     pen.write_number(entries.len() as u32);
     pen.write_bytes(entries);
 }
 
 fn write_records(pen: &mut Pen<'_>, plan: &Plan<'_>)
-    requires plain { Plain (plan_numbers plan.now).entries }
-    requires room { Room (plan_spelling (plan_numbers plan.now)) (page pen.old) }
-    ensures { page pen.new ≡ written (plan_spelling (plan_numbers plan.now)) (page pen.old) }
+    requires plain { IsPlain (plan_numbers plan.now).entries }
+    requires room { HasRoom (plan_spelling (plan_numbers plan.now)) (page pen.old) }
+    ensures { page pen.new ≡ page_after (plan_spelling (plan_numbers plan.now)) (page pen.old) }
 {
     write_header(pen, plan);
     write_schedule(pen, plan.schedule);
@@ -43,7 +43,7 @@ fn write_records(pen: &mut Pen<'_>, plan: &Plan<'_>)
 
 // Writes the file of a plan into the front of an output that has space for it.
 fn write_file(plan: &Plan<'_>, out: &mut [u8])
-    requires plain { Plain (plan_numbers plan.now).entries }
+    requires plain { IsPlain (plan_numbers plan.now).entries }
     requires space { length (plan_spelling (plan_numbers plan.now)) ≤ length out.old }
     ensures { let file = plan_spelling (plan_numbers plan.now) in out.new ≡ file ++ drop (length file) out.old }
 {

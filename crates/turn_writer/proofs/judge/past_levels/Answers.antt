@@ -12,4 +12,8 @@ loop-rank-preserved c =
     let judged = sym c.past_level.ensures ∙ c.in_ok-next.was in
     let k = level_past l.rank l.parties (get_or ls l.rank no_level) l.next c.in_ok-next.next judged in
     let more = at_drop_more (λ left. past_levels l.rank l.parties left l.next) ls l.rank no_level c.loop-rank-test.true in
-    (rw judged at (sym more ∙ l.invariant.0), omega (arith, l.invariant.1, k.0), k.2)
+    record {
+      same = rw judged at (sym more ∙ l.invariant.same);
+      near = omega (arith, l.invariant.near, k.0);
+      few = k.2;
+    }

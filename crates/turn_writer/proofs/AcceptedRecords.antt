@@ -51,20 +51,12 @@ pub level_comes : (rank count parties : ℕ) (l : Level) (at next : ℕ) → pas
     (after_level rank count (parties * l.fan_out))
     × (next ≡ at + length (level_spelling rank l)) × (1 ≤ l.fan_out) × (parties * l.fan_out ≤ 64)
 level_comes rank count parties l at next is =
-    let a : List ℕ = spell (algorithm_number l.algorithm) in
     let b = bind_ok (past_field (FanOut parties) l.fan_out (past (algorithm_number l.algorithm) at)) _ next is in
     let f = field_past (FanOut parties) l.fan_out _ b.0 b.1 in
     let fits = fan_out_fits parties l.fan_out f.0 in
-    let h = limit_fits rank l.handoff_limit b.0 next b.2 in
-    let behind : List ℕ = cond (eqb rank 0) [] (spell (cond (eqb rank 0) 0 l.handoff_limit)) in (
+    let h = limit_fits rank l.handoff_limit b.0 next b.2 in (
       (used_level rank l, refl, record { some = fits.0; few = fits.1; limit = h.0 }, refl),
-      omega (
-        arith,
-        f.1,
-        h.1,
-        length-append a (spell l.fan_out ++ behind),
-        length-append (spell l.fan_out) behind,
-      ),
+      omega (arith, f.1, h.1, length-append {A = ℕ}),
       fits.0,
       fits.1,
     )
@@ -80,12 +72,7 @@ levels_reach rank parties [] at next is = let here : at ≡ next = cc in omega a
 levels_reach rank parties (l ∷ ls) at next is =
     let b = bind_ok (past_level rank parties l at) _ next is in
     let k = level_comes rank 0 parties l at b.0 b.1 in
-    omega (
-      arith,
-      k.1,
-      levels_reach (rank + 1) (parties * l.fan_out) ls b.0 next b.2,
-      length-append (level_spelling rank l) (levels_spelling (rank + 1) ls),
-    )
+    omega (arith, k.1, levels_reach (rank + 1) (parties * l.fan_out) ls b.0 next b.2, length-append {A = ℕ})
 
 -- they come in order, and the scripts of their workers after them
 pub levels_come : (rank count parties : ℕ) (l : Level) (ls : List Level) (at next : ℕ) →
@@ -137,14 +124,7 @@ script_fits s at next is =
     let rest = script_number_fits s.rest t.0 r.0 r.1 in
     let hold = script_number_fits s.hold r.0 next r.2 in (
       record { turns = turns.0; rest = rest.0; hold = hold.0 },
-      omega (
-        arith,
-        turns.1,
-        rest.1,
-        hold.1,
-        length-append (spell s.turns) (spell s.rest ++ spell s.hold),
-        length-append (spell s.rest) (spell s.hold),
-      ),
+      omega (arith, turns.1, rest.1, hold.1, length-append {A = ℕ}),
     )
 
 -- scripts that are not refused reach as far as their spelling
@@ -154,12 +134,7 @@ scripts_reach worker [] at next is = let here : at ≡ next = cc in omega arith
 scripts_reach worker (s ∷ ss) at next is =
     let b = bind_ok (past_script s at) _ next is in
     let k = script_fits s at b.0 b.1 in
-    omega (
-      arith,
-      k.1,
-      scripts_reach (worker + 1) ss b.0 next b.2,
-      length-append (script_spelling s) (scripts_spelling (worker + 1) ss),
-    )
+    omega (arith, k.1, scripts_reach (worker + 1) ss b.0 next b.2, length-append {A = ℕ})
 
 -- they come in order, and the schedule after them
 pub scripts_come : (worker workers : ℕ) (s : Script) (ss : List Script) (at next : ℕ) →
@@ -190,5 +165,5 @@ entries_come workers (e ∷ es) at next is =
     let fits = k.0 in
     let rest = entries_come workers es b.0 next b.2 in (
       (grind (arith, nat_tests), rest.0),
-      omega (arith, k.1, rest.1, length-append (spell e) (flat_map spell es)),
+      omega (arith, k.1, rest.1, length-append {A = ℕ}),
     )

@@ -1,5 +1,5 @@
 -- Bytes that are written one behind the other.
-use Rattle.std.proofs.Common.{◌≡◌, ℕ, List, ◌++◌, length, sym, ap, ◌∙◌, arith, length-append, length-drop, append_assoc}
+use Rattle.std.proofs.Common.{◌≡◌, ℕ, List, ◌++◌, sym, ap, ◌∙◌, arith, length-append, length-drop, append_assoc}
 use Rattle.std.proofs.lemmas.List.{drop-drop}
 use Rattle.turn_writer.specs.Page.{Page, HasRoom, page_after}
 
@@ -9,7 +9,7 @@ page_after_both xs ys p = simp (append_assoc, drop-drop, length-append)
 
 -- there is space for the second behind the first
 pub room_second : (xs ys : List ℕ) (p : Page) → HasRoom (xs ++ ys) p → HasRoom ys (page_after xs p)
-room_second xs ys p room = omega (arith, room, length-append xs ys, length-drop (length xs) p.rest)
+room_second xs ys p room = omega (arith, room, length-append {A = ℕ}, length-drop {A = ℕ})
 
 -- of `whole`, which is to be written on the page `start`, `left` is still to be written
 pub record Writing (whole : List ℕ) (start : Page) (left : List ℕ) (now : Page) : Type 0 where

@@ -160,7 +160,7 @@ spell_some v = grind (arith, nat_tests)
 -- each entry takes a byte at least
 entries_long : (es : List ℕ) → length es ≤ length (flat_map spell es)
 entries_long [] = omega arith
-entries_long (e ∷ es) = omega (arith, spell_some e, entries_long es, length-append (spell e) (flat_map spell es))
+entries_long (e ∷ es) = omega (arith, spell_some e, entries_long es, length-append {A = ℕ})
 
 -- a plan that is too long: its spelling is
 pub plan_too_long : (p : PlanNumbers) → Shape p → file_length p ≡ Err TooLong → longest_file < length (plan_spelling p)

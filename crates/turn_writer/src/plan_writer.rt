@@ -41,16 +41,6 @@ fn write_records(pen: &mut Pen<'_>, plan: &Plan<'_>)
     write_schedule(pen, plan.schedule);
 }
 
-// Writes the file of a plan into the front of an output that has space for it.
-fn write_file(plan: &Plan<'_>, out: &mut [u8])
-    requires plain { IsPlain (plan_numbers plan.now).entries }
-    requires space { length (plan_spelling (plan_numbers plan.now)) ≤ length out.old }
-    ensures { let file = plan_spelling (plan_numbers plan.now) in out.new ≡ file ++ drop (length file) out.old }
-{
-    let mut pen = Pen::new(out);
-    write_records(&mut pen, plan);
-}
-
 // How long the plan's file is, or why the plan cannot be written, whatever space there is.
 pub fn file_length(plan: &Plan<'_>) -> Result<usize, FileFault>
     ensures answer { result ≡ file_length (plan_numbers plan.now) }
@@ -70,6 +60,7 @@ pub fn write_plan(plan: &Plan<'_>, out: &mut [u8]) -> Result<usize, FileFault>
     if length > out.len() {
         return Err(FileFault::OutputTooShort);
     }
-    write_file(plan, out);
+    let mut pen = Pen::new(out);
+    write_records(&mut pen, plan);
     Ok(length)
 }

@@ -1,5 +1,4 @@
 pub mod Accepted
-pub mod Apart
 pub mod Complete
 pub mod Entries
 pub mod Fields

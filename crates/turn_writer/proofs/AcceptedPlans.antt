@@ -15,7 +15,6 @@ use Rattle.turn_file.specs.Fault.{longest_file}
 use Rattle.turn_file.specs.Order.{InOrder, spelling}
 use Rattle.turn_file.specs.Plan.{PlanNumbers, used_levels, workers_of, used_scripts}
 use Rattle.turn_file.specs.Spelling.{spell}
-use Rattle.turn_file.proofs.Apart.{not_both}
 use Rattle.turn_file.proofs.Fields.{bind_ok}
 use Rattle.turn_file.proofs.Sound.{entries_short}
 use Rattle.turn_writer.specs.Judgement.{past, past_field, past_levels, past_scripts, past_header, past_entries}
@@ -33,12 +32,12 @@ use Rattle.turn_writer.proofs.Refusals.{kept}
 pub header_ok : (r : Result ℕ RecordFault) (next : ℕ → Result ℕ FileFault) (n : ℕ) → in_file_order r next ≡ Ok n →
     (a : ℕ) × (r ≡ Ok a) × (next a ≡ Ok n)
 header_ok (Ok a) next n is = (a, refl, is)
-header_ok (Err f) next n is = absurd (not_both (sym is))
+header_ok (Err f) next n is = cc
 
 pub counted_ok : (r : Result ℕ FileFault) (next : ℕ → Result ℕ FileFault) (n : ℕ) → and_then r next ≡ Ok n →
     (a : ℕ) × (r ≡ Ok a) × (next a ≡ Ok n)
 counted_ok (Ok a) next n is = (a, refl, is)
-counted_ok (Err f) next n is = absurd (not_both (sym is))
+counted_ok (Err f) next n is = cc
 
 -- what holds of a plan that is accepted
 pub record Accepted (count : ℕ) (ls : List Level) (ss : List Script) (es : List ℕ) (n : ℕ) : Type 0 where

@@ -10,7 +10,6 @@ use Rattle.turn_file.specs.Fault.{in_file, longest_file}
 use Rattle.turn_file.specs.Order.{spelling, InOrder, FirstFault}
 use Rattle.turn_file.specs.Plan.{PlanNumbers, with_item, blank_plan, plan_of}
 use Rattle.turn_file.specs.Spelling.{Bytes}
-use Rattle.turn_file.proofs.Apart.{not_both}
 use Rattle.turn_file.proofs.Orders.{too_long, read_accepted, read_refused, first_fault}
 use Rattle.turn_writer.specs.Judgement.{file_length}
 use Rattle.turn_writer.specs.Records.{records_of, plan_spelling}
@@ -42,7 +41,7 @@ pub read_records : (file : List ℕ) (q : PlanNumbers) → Bytes file → plan_o
     (length file ≤ longest_file) × InOrder stage.Levels (records_of q) stage.End × (file ≡ plan_spelling q)
 read_records file q each is =
     elim (cases_lt longest_file (length file)) [
-      | inl long ↦ absurd (not_both (sym is ∙ too_long file long))
+      | inl long ↦ cc (too_long file long)
       | inr short ↦
           let w = read_accepted file each q short is in
           let same : w.records ≡ records_of q =
@@ -57,7 +56,7 @@ read_records file q each is =
 spaced_ok : (space : ℕ) (x : Result ℕ FileFault) (n : ℕ) → with_space space x ≡ Ok n → (x ≡ Ok n) × (n ≤ space)
 spaced_ok space (Ok m) n is =
     let k = kept (ltb space m) OutputTooShort m n is in (ap Ok k.1, omega (arith, k.1, ltb-false space m k.0))
-spaced_ok space (Err f) n is = absurd (not_both (sym is))
+spaced_ok space (Err f) n is = cc
 
 spaced_err : (space : ℕ) (x : Result ℕ FileFault) (g : FileFault) → with_space space x ≡ Err g →
     (x ≡ Err g) ⊎ ((n : ℕ) × (x ≡ Ok n) × (space < n) × (g ≡ OutputTooShort))

@@ -15,7 +15,6 @@ use Rattle.turn_file.specs.Field.{field_kind, field_refuses, field_fault}
 use Rattle.turn_file.specs.Record.{bind, judge, with_kind, value_at}
 use Rattle.turn_file.specs.Record.{limit_at, level_at, script_at, entries_end, schedule_at}
 use Rattle.turn_file.specs.Spelling.{spell, Stands}
-use Rattle.turn_file.proofs.Apart.{not_both}
 use Rattle.turn_file.proofs.Complete.{algorithm_small, bind_is}
 use Rattle.turn_file.proofs.Fields.{field_is, algorithm_is}
 use Rattle.turn_file.proofs.Refused.{bind_err}
@@ -54,7 +53,7 @@ module _ (file : List ℕ) where
       limit_at rank file at ≡ Err g
   limit_refused rank n at to g small s is =
       elim (eqb_tells rank 0) [
-        | inl t ↦ absurd (not_both (simp t.0 at is))
+        | inl t ↦ let wrong = simp t.0 at is in cc
         | inr t ↦ simp t.0 (field_refused HandoffLimit n at to g small (simp t.0 at s) (simp t.0 at is))
       ]
 
@@ -102,7 +101,7 @@ module _ (file : List ℕ) where
   entries_refused : (workers : ℕ) (es : List ℕ) (at to : ℕ) (g : RecordFault) → AllByRecursion Word es →
       Stands (flat_map spell es) file at to → past_entries workers es at ≡ Err g →
       entries_end (length es) workers file at ≡ Err g
-  entries_refused workers [] at to g small s is = absurd (not_both is)
+  entries_refused workers [] at to g small s is = cc
   entries_refused workers (e ∷ es) at to g small s is =
       let first = stands_split (spell e) (flat_map spell es) file at to s in
       elim (bind_err (past_field (Entry workers) e at) _ g is) [

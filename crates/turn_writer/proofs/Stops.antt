@@ -11,7 +11,6 @@ use Rattle.turn_file.specs.Fault.{in_file}
 use Rattle.turn_file.specs.Order.{record_spelling, spelling, InOrder}
 use Rattle.turn_file.specs.Reading.{Item, level, script, after_level, after_script, in_order, next_step}
 use Rattle.turn_file.specs.Spelling.{Stands}
-use Rattle.turn_file.proofs.Apart.{not_both}
 use Rattle.turn_file.proofs.Refused.{bind_err}
 use Rattle.turn_file.proofs.Spelled.{stands_none, stands_both, stands_split}
 use Rattle.turn_writer.specs.Judgement.{past_level, past_levels, past_script, past_scripts}
@@ -70,7 +69,7 @@ module _ (file : List ℕ) where
         | inl e ↦
             stopped_here file at (stage.Level rank count parties) f
             (ap in_order (stop _ (level_refused file rank parties l at _ f words.0 split.0 e)))
-        | inr e ↦ absurd (not_both e.2)
+        | inr e ↦ cc
       ]
   levels_stop rank count parties l (m ∷ ms) at to f words counted s is =
       let split = stands_split (level_spelling rank l) (levels_spelling (rank + 1) (m ∷ ms)) file at to s in
@@ -100,7 +99,7 @@ module _ (file : List ℕ) where
         | inl e ↦
             stopped_here file at (stage.Script worker workers) f
             (ap in_order (stop _ (script_refused file t at _ f words.0 split.0 e)))
-        | inr e ↦ absurd (not_both e.2)
+        | inr e ↦ cc
       ]
   scripts_stop worker workers t (u ∷ us) at to f words counted s is =
       let split = stands_split (script_spelling t) (scripts_spelling (worker + 1) (u ∷ us)) file at to s in

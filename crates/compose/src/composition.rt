@@ -1,7 +1,7 @@
 // The plan that a text describes.
 use crate::failure::Failure;
 use crate::lines::Lines;
-use crate::records::{read_entries, read_level, read_script};
+use crate::records::{Numbered, read_entries};
 use crate::unreadable::Unreadable;
 use std::alloc::Global;
 use turn_file::limits::{MOST_LEVELS, MOST_WORKERS};
@@ -41,27 +41,15 @@ impl Composition {
             return Ok(());
         }
         first.expect_end()?;
-        self.read_levels(lines, level_count)?;
+        let levels = &mut self.tables.levels[..level_count as usize];
+        read_each(lines, levels, 1)?;
         let workers = self.tables.workers();
         if !(1..=MOST_WORKERS).contains(&workers) {
             return Ok(());
         }
-        self.read_scripts(lines, workers)?;
+        let scripts = &mut self.tables.scripts[..workers as usize];
+        read_each(lines, scripts, 0)?;
         self.read_schedule(lines)
-    }
-
-    fn read_levels(&mut self, lines: &mut Lines<'_>, count: u32) -> Result<(), Unreadable> {
-        for (level, number) in self.tables.levels.iter_mut().zip(1..=count) {
-            *level = read_level(lines.next_or_empty(), number)?;
-        }
-        Ok(())
-    }
-
-    fn read_scripts(&mut self, lines: &mut Lines<'_>, workers: u32) -> Result<(), Unreadable> {
-        for (script, worker) in self.tables.scripts.iter_mut().zip(0..workers) {
-            *script = read_script(lines.next_or_empty(), worker)?;
-        }
-        Ok(())
     }
 
     // The schedule has at least one line, and goes on to the end of the text.
@@ -72,4 +60,16 @@ impl Composition {
         }
         Ok(())
     }
+}
+
+// Reads a line for each place of a table; the lines are numbered from `first` on.
+fn read_each<T: Numbered + Drop>(
+    lines: &mut Lines<'_>,
+    table: &mut [T],
+    first: u32,
+) -> Result<(), Unreadable> {
+    for (place, number) in table.iter_mut().zip(first..) {
+        *place = T::read(lines.next_or_empty(), number)?;
+    }
+    Ok(())
 }

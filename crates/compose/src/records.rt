@@ -15,32 +15,41 @@ fn read_algorithm(line: &mut Words<'_>) -> Result<Algorithm, Unreadable> {
     }
 }
 
+// A record that has a line with a number of its own.
+pub(crate) trait Numbered: Sized {
+    fn read(line: Words<'_>, number: u32) -> Result<Self, Unreadable>;
+}
+
 // Levels count from 1. The first is the top level, which has no handoff limit.
-pub(crate) fn read_level(mut line: Words<'_>, number: u32) -> Result<Level, Unreadable> {
-    line.expect_record("level", number)?;
-    let algorithm = read_algorithm(&mut line)?;
-    let fan_out = line.expect_setting("fan-out")?;
-    let handoff_limit = if number == 1 {
-        0
-    } else {
-        line.expect_setting("handoff-limit")?
-    };
-    line.expect_end()?;
-    Ok(Level {
-        algorithm,
-        fan_out,
-        handoff_limit,
-    })
+impl Numbered for Level {
+    fn read(mut line: Words<'_>, number: u32) -> Result<Level, Unreadable> {
+        line.expect_record("level", number)?;
+        let algorithm = read_algorithm(&mut line)?;
+        let fan_out = line.expect_setting("fan-out")?;
+        let handoff_limit = if number == 1 {
+            0
+        } else {
+            line.expect_setting("handoff-limit")?
+        };
+        line.expect_end()?;
+        Ok(Level {
+            algorithm,
+            fan_out,
+            handoff_limit,
+        })
+    }
 }
 
 // Workers count from 0.
-pub(crate) fn read_script(mut line: Words<'_>, worker: u32) -> Result<Script, Unreadable> {
-    line.expect_record("script", worker)?;
-    let turns = line.expect_setting("turns")?;
-    let rest = line.expect_setting("rest")?;
-    let hold = line.expect_setting("hold")?;
-    line.expect_end()?;
-    Ok(Script { turns, rest, hold })
+impl Numbered for Script {
+    fn read(mut line: Words<'_>, worker: u32) -> Result<Script, Unreadable> {
+        line.expect_record("script", worker)?;
+        let turns = line.expect_setting("turns")?;
+        let rest = line.expect_setting("rest")?;
+        let hold = line.expect_setting("hold")?;
+        line.expect_end()?;
+        Ok(Script { turns, rest, hold })
+    }
 }
 
 // A byte holds every worker. A number that it does not hold is no worker, and nor is 255.

@@ -13,7 +13,7 @@ use Rattle.turn_file.specs.Field.{bad_limit, bad_script_number}
 use Rattle.turn_file.specs.Record.{fan_out_at, limit_at, level_at, script_number_at}
 use Rattle.turn_file.specs.Field.{bad_entry}
 use Rattle.turn_file.specs.Record.{script_at, entry_at, entries_end, schedule_at}
-use Rattle.turn_file.proofs.Fields.{bind_ok, judge_ok, field_ok, algorithm_ok}
+use Rattle.turn_file.proofs.Fields.{bind_ok, number_ok, field_ok, algorithm_ok}
 
 -- the top level has no limit
 pub limit_ok : (rank : ℕ) (file : List ℕ) (at : ℕ) (n : ℕ × ℕ) → limit_at rank file at ≡ Ok n →
@@ -101,7 +101,7 @@ pub record ScheduleFields (workers : ℕ) (file : List ℕ) (at first to : ℕ) 
 pub schedule_ok : (workers : ℕ) (file : List ℕ) (at : ℕ) (e : ℕ × ℕ) → schedule_at workers file at ≡ Ok e →
     ScheduleFields workers file at e.0 e.1
 schedule_ok workers file at e h =
-    let j = judge_ok kind.Schedule (number_at file at) _ e h in
+    let j = number_ok kind.Schedule (number_at file at) _ e h in
     let b = bind_ok (entries_end j.0.0 workers file j.0.1) _ e j.2 in
     let same : (j.0.1, b.0) ≡ e = let s = b.2 in cc in
     subst (λ m. ScheduleFields workers file at m.0 m.1) same

@@ -15,7 +15,7 @@ use Rattle.turn_file.specs.Order.{record_spelling, LevelFits, ScriptFits, Comes}
 use Rattle.turn_file.specs.Reading.{Item, level, script, schedule, Stepped, in_order, next_step}
 use Rattle.turn_file.specs.Algorithm.{algorithm_number}
 use Rattle.turn_file.specs.Field.{bad_levels}
-use Rattle.turn_file.specs.Record.{bind, judge, with_kind, levels_at}
+use Rattle.turn_file.specs.Record.{bind, with_kind, levels_at}
 use Rattle.turn_file.specs.Field.{bad_fan_out, bad_limit, bad_script_number}
 use Rattle.turn_file.specs.Record.{fan_out_at, limit_at, level_at}
 use Rattle.turn_file.specs.Field.{bad_entry}
@@ -109,7 +109,7 @@ module _ (file : List ℕ) where
       let found = spelled_number file at (length es) first counted split.0 in
       let ends = entries_complete workers first to es few all split.1 in (
         first,
-        ap (λ r. judge (with_kind kind.Schedule r)
+        ap (λ r. bind (with_kind kind.Schedule r)
             (λ n. bind (entries_end n.0 workers file n.1) (λ end. Ok (n.1, end)))) found ∙ bind_is _ ends refl,
         stands_cut es file first to
             (subst (λ xs. Stands xs file first to) (entries_short workers es few all) split.1),

@@ -10,20 +10,20 @@ use Rattle.turn_file.specs.declared.plan.Algorithm.{Algorithm}
 use Rattle.turn_file.specs.declared.plan.Algorithm.TheVariants.{Ticket, Mcs}
 use Rattle.turn_file.specs.Number.{number_at}
 use Rattle.turn_file.specs.Algorithm.{algorithm_number}
-use Rattle.turn_file.specs.Record.{bind, judge, with_kind, field_at}
+use Rattle.turn_file.specs.Record.{bind, with_kind, field_at}
 use Rattle.turn_file.specs.Field.{bad_fan_out}
 use Rattle.turn_file.specs.Record.{algorithm_of, algorithm_at}
 
 -- what was read first, and what came of it
-pub bind_ok : {A B : Type 0} (r : Result A RecordFault) (next : A → Result B RecordFault) (b : B) →
+pub bind_ok : {A B E : Type 0} (r : Result A E) (next : A → Result B E) (b : B) →
     bind r next ≡ Ok b → (a : A) × (r ≡ Ok a) × (next a ≡ Ok b)
 bind_ok (Ok a) next b e = (a, refl, e)
 bind_ok (Err f) next b e = cc
 
-pub judge_ok : {B : Type 0} (k : RecordKind) (r : Result (ℕ × ℕ) NumberFault) (value : ℕ × ℕ → Result B RecordFault)
-    (b : B) → judge (with_kind k r) value ≡ Ok b → (n : ℕ × ℕ) × (r ≡ Ok n) × (value n ≡ Ok b)
-judge_ok k (Ok n) value b e = (n, refl, e)
-judge_ok k (Err f) value b e = cc
+pub number_ok : {B : Type 0} (k : RecordKind) (r : Result (ℕ × ℕ) NumberFault) (value : ℕ × ℕ → Result B RecordFault)
+    (b : B) → bind (with_kind k r) value ≡ Ok b → (n : ℕ × ℕ) × (r ≡ Ok n) × (value n ≡ Ok b)
+number_ok k (Ok n) value b e = (n, refl, e)
+number_ok k (Err f) value b e = cc
 
 not_refused : {A : Type 0} (bad : Bool) (f : RecordFault) (a b : A) → cond bad (Err f) (Ok a) ≡ Ok b → (bad ≡ false)
     × (a ≡ b)
@@ -33,13 +33,13 @@ not_refused false f a b e = (refl, cc)
 module _ (k : RecordKind) (bad : ℕ → Bool) (f : RecordFault) (file : List ℕ) (at : ℕ) (n : ℕ × ℕ) where
   pub field_ok : field_at k bad f file at ≡ Ok n → (number_at file at ≡ Ok n) × (bad n.0 ≡ false)
   field_ok e =
-      let j = judge_ok k (number_at file at) (λ m. cond (bad m.0) (Err f) (Ok m)) n e in
+      let j = number_ok k (number_at file at) (λ m. cond (bad m.0) (Err f) (Ok m)) n e in
       let s = not_refused (bad j.0.0) f j.0 n j.2 in
       (j.1 ∙ ap Ok s.1, ap (λ m. bad m.0) (sym s.1) ∙ s.0)
 
   pub field_is : number_at file at ≡ Ok n → bad n.0 ≡ false → field_at k bad f file at ≡ Ok n
   field_is found fits =
-      ap (λ r. judge (with_kind k r) (λ m. cond (bad m.0) (Err f) (Ok m))) found
+      ap (λ r. bind (with_kind k r) (λ m. cond (bad m.0) (Err f) (Ok m))) found
       ∙ ap (λ t. cond t (Err f) (Ok n)) fits
 
 algorithm_of_ok : (n : ℕ) (f : RecordFault) (a : Algorithm) → algorithm_of n f ≡ Ok a → n ≡ algorithm_number a
@@ -54,7 +54,7 @@ module _ (file : List ℕ) (at : ℕ) where
   pub algorithm_ok : (a : Algorithm × ℕ) → algorithm_at file at ≡ Ok a →
       number_at file at ≡ Ok (algorithm_number a.0, a.1)
   algorithm_ok a e =
-      let j = judge_ok kind.Level (number_at file at)
+      let j = number_ok kind.Level (number_at file at)
       (λ n. bind (algorithm_of n.0 (fault.Algorithm at)) (λ b. Ok (b, n.1))) a e in
       let b = bind_ok (algorithm_of j.0.0 (fault.Algorithm at)) (λ b. Ok (b, j.0.1)) a j.2 in
       let same : (b.0, j.0.1) ≡ a = let s = b.2 in cc in
@@ -64,7 +64,7 @@ module _ (file : List ℕ) (at : ℕ) where
   pub algorithm_is : (a : Algorithm) (to : ℕ) → number_at file at ≡ Ok (algorithm_number a, to) →
       algorithm_at file at ≡ Ok (a, to)
   algorithm_is a to found =
-      ap (λ r. judge (with_kind kind.Level r)
+      ap (λ r. bind (with_kind kind.Level r)
       (λ n. bind (algorithm_of n.0 (fault.Algorithm at)) (λ b. Ok (b, n.1)))) found
       ∙ ap (λ x. bind x (λ b. Ok (b, to))) (algorithm_of_is a (fault.Algorithm at))
 

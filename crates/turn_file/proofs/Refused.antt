@@ -17,7 +17,7 @@ use Rattle.turn_file.specs.declared.number.Group.TheVariants.{Last, More}
 use Rattle.turn_file.specs.Number.{group_of, group_before, judged, groups, number_at}
 use Rattle.turn_file.specs.Reading.{Stepped, in_order, next_step}
 use Rattle.turn_file.specs.Reading.{levels_step, level_step, script_step, schedule_step}
-use Rattle.turn_file.specs.Record.{bind, judge, with_kind, field_at, levels_at, algorithm_of, algorithm_at, fan_out_at}
+use Rattle.turn_file.specs.Record.{bind, with_kind, field_at, levels_at, algorithm_of, algorithm_at, fan_out_at}
 use Rattle.turn_file.specs.Field.{bad_levels, bad_fan_out, bad_limit, bad_script_number, bad_entry}
 use Rattle.turn_file.specs.Record.{limit_at, level_at, script_number_at, script_at, entry_at, entries_end, schedule_at}
 use Rattle.turn_file.proofs.Accepted.{fan_out_ok, script_number_ok, entry_ok}
@@ -48,11 +48,11 @@ groups_place at (suc left) next (b ∷ bytes) e is =
     judged_place at left (next + 1) b (group_of at b left) (groups at left (next + 1) bytes) e refl
     (λ f. groups_place at left (next + 1) bytes f) is
 
-judge_err : {B : Type 0} (k : RecordKind) (r : Result (ℕ × ℕ) NumberFault) (value : ℕ × ℕ → Result B RecordFault)
-    (f : RecordFault) → judge (with_kind k r) value ≡ Err f →
+number_err : {B : Type 0} (k : RecordKind) (r : Result (ℕ × ℕ) NumberFault) (value : ℕ × ℕ → Result B RecordFault)
+    (f : RecordFault) → bind (with_kind k r) value ≡ Err f →
     ((e : NumberFault) × (r ≡ Err e) × (f ≡ in_record k e)) ⊎ ((n : ℕ × ℕ) × (r ≡ Ok n) × (value n ≡ Err f))
-judge_err k (Ok n) value f is = inr (n, refl, is)
-judge_err k (Err e) value f is = inl (e, refl, cc)
+number_err k (Ok n) value f is = inr (n, refl, is)
+number_err k (Err e) value f is = inl (e, refl, cc)
 
 pub bind_err : {A B : Type 0} (r : Result A RecordFault) (next : A → Result B RecordFault) (f : RecordFault) →
     bind r next ≡ Err f → (r ≡ Err f) ⊎ ((a : A) × (r ≡ Ok a) × (next a ≡ Err f))
@@ -67,7 +67,7 @@ refused_by false a f g is = cc
 field_place : (k : RecordKind) (bad : ℕ → Bool) (f : RecordFault) (file : List ℕ) (at : ℕ) (g : RecordFault) →
     record_place f ≡ at → field_at k bad f file at ≡ Err g → record_place g ≡ at
 field_place k bad f file at g here is =
-    elim (judge_err k (number_at file at) (λ n. cond (bad n.0) (Err f) (Ok n)) g is) [
+    elim (number_err k (number_at file at) (λ n. cond (bad n.0) (Err f) (Ok n)) g is) [
       | inl p ↦ ap record_place p.2 ∙ groups_place at 5 at (drop at file) p.0 p.1
       | inr p ↦ sym (ap record_place (refused_by (bad p.0.0) p.0 f g p.2)) ∙ here
     ]
@@ -77,7 +77,7 @@ no_algorithm n f g is = grind (arith, nat_tests)
 
 algorithm_place : (file : List ℕ) (at : ℕ) (g : RecordFault) → algorithm_at file at ≡ Err g → record_place g ≡ at
 algorithm_place file at g is =
-    elim (judge_err kind.Level (number_at file at) _ g is) [
+    elim (number_err kind.Level (number_at file at) _ g is) [
       | inl p ↦ ap record_place p.2 ∙ groups_place at 5 at (drop at file) p.0 p.1
       | inr p ↦
           elim (bind_err (algorithm_of p.0.0 (fault.Algorithm at)) _ g p.2) [
@@ -157,7 +157,7 @@ module _ (file : List ℕ) where
   schedule_lies : (workers at : ℕ) (g : RecordFault) → at ≤ length file →
       schedule_at workers file at ≡ Err g → Lies file at (record_place g)
   schedule_lies workers at g before is =
-      elim (judge_err kind.Schedule (number_at file at) _ g is) [
+      elim (number_err kind.Schedule (number_at file at) _ g is) [
         | inl p ↦
             let e = ap record_place p.2 ∙ groups_place at 5 at (drop at file) p.0 p.1 in
             (omega arith, omega arith)

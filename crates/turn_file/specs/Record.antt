@@ -8,37 +8,31 @@ use Rattle.turn_file.specs.declared.fault.RecordKind.TheVariants as kind
 use Rattle.turn_file.specs.declared.field.Field.{Field}
 use Rattle.turn_file.specs.declared.field.Field.TheVariants as field
 use Rattle.turn_file.specs.declared.plan.Algorithm.{Algorithm}
-use Rattle.turn_file.specs.declared.plan.Algorithm.TheVariants.{Ticket, Mcs}
+use Rattle.turn_file.specs.declared.plan.UnknownAlgorithm.{UnknownAlgorithm}
 use Rattle.turn_file.specs.declared.plan.Level.{Level}
 use Rattle.turn_file.specs.declared.plan.Script.{Script}
-use Rattle.turn_file.specs.Algorithm.{algorithm_number}
+use Rattle.turn_file.specs.Algorithm.{algorithm_from}
 use Rattle.turn_file.specs.Fault.{in_record}
 use Rattle.turn_file.specs.Field.{field_kind, field_refuses, field_fault}
 use Rattle.turn_file.specs.Number.{number_at}
 
--- a number's fault goes with the kind of the record that the number is of
-abbrev pub with_kind : RecordKind → Result (ℕ × ℕ) NumberFault → Result (ℕ × ℕ) (RecordKind × NumberFault)
+-- a number's fault is raised to the record that the number is of
+abbrev pub with_kind : RecordKind → Result (ℕ × ℕ) NumberFault → Result (ℕ × ℕ) RecordFault
 with_kind k (Ok n) = Ok n
-with_kind k (Err f) = Err (k, f)
+with_kind k (Err f) = Err (in_record k f)
 
 -- a number of a record of this kind
-abbrev pub number_in : RecordKind → List ℕ → ℕ → Result (ℕ × ℕ) (RecordKind × NumberFault)
+abbrev pub number_in : RecordKind → List ℕ → ℕ → Result (ℕ × ℕ) RecordFault
 number_in k file at = with_kind k (number_at file at)
 
--- a number's value is judged only if the number is sound
-abbrev pub judge : {B : Type 0} → Result (ℕ × ℕ) (RecordKind × NumberFault) → (ℕ × ℕ → Result B RecordFault) →
-    Result B RecordFault
-judge (Ok n) value = value n
-judge (Err f) value = Err (in_record f.0 f.1)
-
 -- the next is read only if this one is sound
-abbrev pub bind : {A B : Type 0} → Result A RecordFault → (A → Result B RecordFault) → Result B RecordFault
+abbrev pub bind : {A B E : Type 0} → Result A E → (A → Result B E) → Result B E
 bind (Ok a) next = next a
 bind (Err f) next = Err f
 
 -- a number of a record of this kind, which is refused if its value is bad
 abbrev pub field_at : RecordKind → (ℕ → Bool) → RecordFault → List ℕ → ℕ → Result (ℕ × ℕ) RecordFault
-field_at k bad f file at = judge (number_in k file at) (λ n. cond (bad n.0) (Err f) (Ok n))
+field_at k bad f file at = bind (number_in k file at) (λ n. cond (bad n.0) (Err f) (Ok n))
 
 -- a number that only some values fit
 abbrev pub value_at : Field → List ℕ → ℕ → Result (ℕ × ℕ) RecordFault
@@ -48,13 +42,17 @@ value_at field file at = field_at (field_kind field) (field_refuses field) (fiel
 abbrev pub levels_at : List ℕ → ℕ → Result (ℕ × ℕ) RecordFault
 levels_at file at = value_at field.LevelCount file at
 
+-- the algorithm of a number, or this fault
+abbrev pub algorithm_or : RecordFault → Result Algorithm UnknownAlgorithm → Result Algorithm RecordFault
+algorithm_or f (Ok a) = Ok a
+algorithm_or f (Err unknown) = Err f
+
 abbrev pub algorithm_of : ℕ → RecordFault → Result Algorithm RecordFault
-algorithm_of n f =
-    cond (n == algorithm_number Ticket) (Ok Ticket) (cond (n == algorithm_number Mcs) (Ok Mcs) (Err f))
+algorithm_of n f = algorithm_or f (algorithm_from n)
 
 abbrev pub algorithm_at : List ℕ → ℕ → Result (Algorithm × ℕ) RecordFault
 algorithm_at file at =
-    judge (number_in kind.Level file at) (λ n. bind (algorithm_of n.0 (fault.Algorithm at)) (λ a. Ok (a, n.1)))
+    bind (number_in kind.Level file at) (λ n. bind (algorithm_of n.0 (fault.Algorithm at)) (λ a. Ok (a, n.1)))
 
 -- the members of each lane, where the levels above have so many parties
 abbrev pub fan_out_at : ℕ → List ℕ → ℕ → Result (ℕ × ℕ) RecordFault
@@ -94,4 +92,4 @@ entries_end (suc n) workers file at = bind (entry_at workers file at) (λ e. ent
 -- the count of entries, which may be any number; then the place of the first entry, and the place after the last
 abbrev pub schedule_at : ℕ → List ℕ → ℕ → Result (ℕ × ℕ) RecordFault
 schedule_at workers file at =
-    judge (number_in kind.Schedule file at) (λ n. bind (entries_end n.0 workers file n.1) (λ end. Ok (n.1, end)))
+    bind (number_in kind.Schedule file at) (λ n. bind (entries_end n.0 workers file n.1) (λ end. Ok (n.1, end)))

@@ -21,9 +21,8 @@ pub record Stands (xs file : List ℕ) (at to : ℕ) : Type 0 where
   pub begins : drop at file ≡ xs ++ drop to file
   pub ends : to ≡ at + length xs
 
--- What a reader answers at the place `at`, where values below `limit` are numbers:
--- the value whose spelling stands there,
--- with the place after it, wherever one stands; and a fault only where none stands.
+-- What a reader answers at the place `at`, where values below `limit` are numbers: the value whose spelling stands
+-- there, with the place after it, wherever one stands; and a fault only where none stands.
 pub record Spelled (limit : ℕ) (file : List ℕ) (at : ℕ) (r : Result (ℕ × ℕ) NumberFault) : Type 0 where
   pub accepted : (n : ℕ × ℕ) → r ≡ Ok n → (n.0 < limit) × Stands (spell n.0) file at n.1
   pub accepts : (v to : ℕ) → v < limit → Stands (spell v) file at to → r ≡ Ok (v, to)

@@ -8,6 +8,7 @@ ghost use Rattle.turn_file.specs.Fault.{kind_number, record_kind, fault_record_k
 ghost use Rattle.turn_file.specs.Fault.{layer_number, record_layer, fault_layer};
 
 use crate::limits::LONGEST_FILE;
+use std::error::Error;
 use std::fmt;
 
 // The kinds of record that a turn file is made of.
@@ -85,10 +86,12 @@ impl fmt::Display for FaultNumbers {
     ghost output = { λ n. Some (fault_line n) };
 
     fn fmt<W: fmt::Write>(&self, f: &mut fmt::Formatter<W>) -> fmt::Result {
-        let cause = self.cause;
-        let place = self.place;
-        let kind = self.kind;
-        let layer = self.layer;
+        let FaultNumbers {
+            cause,
+            place,
+            kind,
+            layer,
+        } = self;
         write!(f, "fault {cause} {place} {kind} {layer}")
     }
 }
@@ -101,12 +104,13 @@ impl fmt::Display for FileFault {
     }
 }
 
+impl Error for FileFault {}
+
 // A number's fault is raised with the kind of the record that the number is of.
 impl From<(RecordKind, NumberFault)> for RecordFault {
     ghost from_gives = { λ n r. r ≡ in_record n.0 n.1 };
 
-    fn from(n: (RecordKind, NumberFault)) -> RecordFault {
-        let (kind, fault) = n;
+    fn from((kind, fault): (RecordKind, NumberFault)) -> RecordFault {
         RecordFault::Number { kind, fault }
     }
 }

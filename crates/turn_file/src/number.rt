@@ -12,9 +12,8 @@ enum Group {
     More,
 }
 
-// Judges a byte behind which at most `left` groups may come: 4 behind the first, none behind the fifth.
-// The number begins at `at`.
-fn judge(at: usize, byte: u8, left: usize) -> Result<Group, NumberFault>
+// What a byte is, behind which at most `left` groups may come, in a number that begins at `at`.
+fn group_of(at: usize, byte: u8, left: usize) -> Result<Group, NumberFault>
     ensures { result ≡ group_of at byte left }
 {
     if byte == 0 && left < 4 {
@@ -42,11 +41,12 @@ pub fn read_number(file: &[u8], at: usize) -> Result<(u32, usize), NumberFault>
 {
     let mut value = 0;
     let mut weight = 1;
-    for (index, byte) in bytes_from(file, at).iter().enumerate() {
-        match judge(at, *byte, 4 - index)? {
-            Group::Last => return Ok((value + u32::from(*byte) * weight, at + index + 1)),
+    for (index, &byte) in bytes_from(file, at).iter().enumerate() {
+        // Four groups may come behind the first, and none behind the fifth, which ends the number.
+        match group_of(at, byte, 4 - index)? {
+            Group::Last => return Ok((value + u32::from(byte) * weight, at + index + 1)),
             Group::More => {
-                value += u32::from(*byte - 128) * weight;
+                value += u32::from(byte - 128) * weight;
                 weight *= 128;
             }
         }

@@ -1,6 +1,7 @@
 // What a turn file says: the stack of locks, each worker's script, and the order in which the workers ran.
 ghost use Rattle.std.specs.Prelude.{◌≡◌, Some, take};
-ghost use Rattle.turn_file.specs.Algorithm.{algorithm_number, algorithm_from, unknown_algorithm_text};
+ghost use Rattle.turn_file.specs.Algorithm.{algorithm_number, algorithm_from};
+ghost use Rattle.turn_file.specs.Algorithm.{algorithm_text, unknown_algorithm_text};
 ghost use Rattle.turn_file.specs.Plan.{plan_numbers, blank_plan, lanes_below, used_levels, workers_of, used_scripts};
 
 use std::error::Error;
@@ -12,6 +13,17 @@ pub enum Algorithm {
     #[default]
     Ticket,
     Mcs,
+}
+
+impl fmt::Display for Algorithm {
+    ghost output = { λ algorithm. Some (algorithm_text algorithm) };
+
+    fn fmt<W: fmt::Write>(&self, f: &mut fmt::Formatter<W>) -> fmt::Result {
+        f.write_str(match self {
+            Algorithm::Ticket => "ticket",
+            Algorithm::Mcs => "mcs",
+        })
+    }
 }
 
 // A number that stands for no algorithm.

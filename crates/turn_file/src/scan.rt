@@ -4,7 +4,7 @@ ghost use Rattle.turn_file.specs.Record.{number_in, value_at, algorithm_at, limi
 ghost use Rattle.turn_file.specs.Record.{script_at, entries_end, schedule_at};
 ghost use Rattle.turn_file.specs.Scanning.{Reads, Passes};
 
-use crate::fault::{NumberFault, RecordFault, RecordKind};
+use crate::fault::{RecordFault, RecordKind};
 use crate::field::Field;
 use crate::number::read_number;
 use crate::plan::{Algorithm, Level, Script};
@@ -18,7 +18,7 @@ pub(crate) struct Scan<'a> {
 
 impl Scan<'_> {
     // A number of a record of this kind.
-    fn number(&mut self, kind: RecordKind) -> Result<u32, (RecordKind, NumberFault)>
+    fn number(&mut self, kind: RecordKind) -> Result<u32, RecordFault>
         ensures { Reads (number_in kind) self.old result self.new }
     {
         let (value, next) = read_number(self.file, self.place).map_err(|fault| (kind, fault))?;

@@ -1,7 +1,8 @@
 // Which record comes next in a file, and what is read of it.
-ghost use Rattle.std.specs.Prelude.{◌≡◌, ◌+◌, ◌-◌, ◌≤◌, cond, length, Some, None, nat_lt};
+ghost use Rattle.std.specs.Prelude.{◌≡◌, ◌+◌, ◌<◌, ◌≤◌, length, SomeIff};
 ghost use Rattle.std.specs.List.{between};
-ghost use Rattle.turn_file.specs.Reading.{after_level, after_script, seen_step, seen_next};
+ghost use Rattle.turn_file.specs.Reading.{after_level, after_script, seen_next};
+ghost use Rattle.turn_file.specs.Scanning.{Steps};
 ghost use Rattle.turn_file.specs.Reading.{levels_step, level_step, script_step, schedule_step, next_step};
 
 use crate::fault::{FileFault, RecordFault};
@@ -27,9 +28,9 @@ pub(crate) struct Step<'a> {
     pub(crate) stage: Stage,
 }
 
-// The number after this one, of so many that count from 0.
+// The next number below `count`, if there is one.
 fn following(number: u32, count: u32) -> Option<u32>
-    ensures { result ≡ cond (nat_lt number (count - 1)) (Some (number + 1)) None }
+    ensures { SomeIff result (number + 1 < count) (number + 1) }
 {
     number.checked_add(1).filter(|next| *next < count)
 }
@@ -75,7 +76,7 @@ impl<'a> Scan<'a> {
     }
 
     fn step_levels(mut self) -> Result<Step<'a>, RecordFault>
-        ensures { seen_step result ≡ levels_step self.entry.file.now self.entry.place }
+        ensures { Steps levels_step self.entry result }
     {
         let place = self.place;
         let count = self.value(Field::LevelCount)?;
@@ -94,7 +95,7 @@ impl<'a> Scan<'a> {
     }
 
     fn step_level(mut self, rank: u32, count: u32, parties: u32) -> Result<Step<'a>, RecordFault>
-        ensures { seen_step result ≡ level_step rank count parties self.entry.file.now self.entry.place }
+        ensures { Steps (level_step rank count parties) self.entry result }
     {
         let place = self.place;
         let level = self.level(rank, parties)?;
@@ -110,7 +111,7 @@ impl<'a> Scan<'a> {
     }
 
     fn step_script(mut self, worker: u32, workers: u32) -> Result<Step<'a>, RecordFault>
-        ensures { seen_step result ≡ script_step worker workers self.entry.file.now self.entry.place }
+        ensures { Steps (script_step worker workers) self.entry result }
     {
         let place = self.place;
         let script = self.script()?;
@@ -127,7 +128,7 @@ impl<'a> Scan<'a> {
 
     // The part of a schedule has only the entries.
     fn step_schedule(mut self, workers: u32) -> Result<Step<'a>, RecordFault>
-        ensures { seen_step result ≡ schedule_step workers self.entry.file.now self.entry.place }
+        ensures { Steps (schedule_step workers) self.entry result }
     {
         let first = self.schedule(workers)?;
         Ok(Step {

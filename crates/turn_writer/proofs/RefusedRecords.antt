@@ -12,7 +12,7 @@ use Rattle.turn_file.specs.Order.{record_spelling}
 use Rattle.turn_file.specs.Reading.{schedule}
 use Rattle.turn_file.specs.Algorithm.{algorithm_number}
 use Rattle.turn_file.specs.Field.{field_kind, field_refuses, field_fault}
-use Rattle.turn_file.specs.Record.{bind, judge, with_kind, value_at}
+use Rattle.turn_file.specs.Record.{bind, with_kind, value_at}
 use Rattle.turn_file.specs.Record.{limit_at, level_at, script_at, entries_end, schedule_at}
 use Rattle.turn_file.specs.Spelling.{spell, Stands}
 use Rattle.turn_file.proofs.Complete.{algorithm_small, bind_is}
@@ -38,7 +38,7 @@ module _ (file : List ℕ) where
       let k = refused (field_refuses field n) (field_fault field at) g (past n at) is in
       let judged : ℕ × ℕ → Result (ℕ × ℕ) RecordFault =
       λ m. cond (field_refuses field m.0) (Err (field_fault field at)) (Ok m) in
-      ap (λ r. judge (with_kind (field_kind field) r) judged) (spelled_number file at n to small s)
+      ap (λ r. bind (with_kind (field_kind field) r) judged) (spelled_number file at n to small s)
       ∙ ap (λ bad. cond bad (Err (field_fault field at)) (Ok (n, to))) k.0 ∙ ap Err k.1
 
   -- or reads it
@@ -118,7 +118,7 @@ module _ (file : List ℕ) where
       past_entries workers es (past (length es) at) ≡ Err g → schedule_at workers file at ≡ Err g
   schedule_refused workers es at to g small counted s is =
       let split = stands_split (spell (length es)) (flat_map spell es) file at to s in
-      ap (λ r. judge (with_kind kind.Schedule r)
+      ap (λ r. bind (with_kind kind.Schedule r)
       (λ n. bind (entries_end n.0 workers file n.1) (λ end. Ok (n.1, end))))
       (spelled_number file at (length es) (past (length es) at) counted split.0)
       ∙ stop _ (entries_refused workers es (past (length es) at) to g small split.1 is)

@@ -7,11 +7,9 @@ use Rattle.turn_file.specs.declared.plan.Level.{Level}
 use Rattle.turn_file.specs.declared.plan.Script.{Script}
 use Rattle.turn_file.specs.Number.{number_at}
 use Rattle.turn_file.specs.Algorithm.{algorithm_number}
-use Rattle.turn_file.specs.Field.{bad_levels, bad_fan_out}
+use Rattle.turn_file.specs.Field.{bad_levels, bad_fan_out, bad_limit, bad_script_number, bad_entry}
 use Rattle.turn_file.specs.Record.{levels_at, algorithm_at}
-use Rattle.turn_file.specs.Field.{bad_limit, bad_script_number}
 use Rattle.turn_file.specs.Record.{fan_out_at, limit_at, level_at, script_number_at}
-use Rattle.turn_file.specs.Field.{bad_entry}
 use Rattle.turn_file.specs.Record.{script_at, entry_at, entries_end, schedule_at}
 use Rattle.turn_file.proofs.Fields.{bind_ok, number_ok, field_ok, algorithm_ok}
 

@@ -14,11 +14,9 @@ use Rattle.turn_file.specs.declared.step.Stage.TheVariants as stage
 use Rattle.turn_file.specs.Order.{record_spelling, LevelFits, ScriptFits, Comes}
 use Rattle.turn_file.specs.Reading.{Item, level, script, schedule, Stepped, in_order, next_step}
 use Rattle.turn_file.specs.Algorithm.{algorithm_number}
-use Rattle.turn_file.specs.Field.{bad_levels}
+use Rattle.turn_file.specs.Field.{bad_levels, bad_fan_out, bad_limit, bad_script_number, bad_entry}
 use Rattle.turn_file.specs.Record.{bind, with_kind, levels_at}
-use Rattle.turn_file.specs.Field.{bad_fan_out, bad_limit, bad_script_number}
 use Rattle.turn_file.specs.Record.{fan_out_at, limit_at, level_at}
-use Rattle.turn_file.specs.Field.{bad_entry}
 use Rattle.turn_file.specs.Record.{script_number_at, script_at, entries_end, schedule_at}
 use Rattle.turn_file.specs.Spelling.{spell, Stands}
 use Rattle.turn_file.proofs.Fields.{field_is, algorithm_is}

@@ -10,9 +10,8 @@ use Rattle.turn_file.specs.declared.plan.Algorithm.{Algorithm}
 use Rattle.turn_file.specs.declared.plan.Algorithm.TheVariants.{Ticket, Mcs}
 use Rattle.turn_file.specs.Number.{number_at}
 use Rattle.turn_file.specs.Algorithm.{algorithm_number}
-use Rattle.turn_file.specs.Record.{bind, with_kind, field_at}
+use Rattle.turn_file.specs.Record.{bind, with_kind, field_at, algorithm_of, algorithm_at}
 use Rattle.turn_file.specs.Field.{bad_fan_out}
-use Rattle.turn_file.specs.Record.{algorithm_of, algorithm_at}
 
 -- what was read first, and what came of it
 pub bind_ok : {A B E : Type 0} (r : Result A E) (next : A → Result B E) (b : B) →

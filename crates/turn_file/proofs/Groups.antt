@@ -95,11 +95,13 @@ module _ {number : Read} {at index value weight : ℕ} {bytes : List ℕ} (s : S
         let some : 0 < s.left = omega arith in
         let less : 4 - index ≡ s.left - 1 = omega (arith, s.five) in
         s.number_is ∙ ap (behind value weight) (turn s.left some within
-        ∙ ap (λ h. judged (at + index + 1) (get_or bytes index 0) h (groups at (s.left - 1) (at + index + 1) (drop (index + 1) bytes)))
+        ∙ ap (λ h. judged (at + index + 1) (get_or bytes index 0) h
+        (groups at (s.left - 1) (at + index + 1) (drop (index + 1) bytes)))
         (ap (group_of at (get_or bytes index 0)) (sym less) ∙ sym is))
 
     -- no byte is there
-    turn_ends : (left : ℕ) → 0 < left → length bytes ≤ index → groups at left (at + index) (drop index bytes) ≡ Err (Ends at)
+    turn_ends : (left : ℕ) → 0 < left → length bytes ≤ index →
+        groups at left (at + index) (drop index bytes) ≡ Err (Ends at)
     turn_ends zero some past = absurd (omega arith)
     turn_ends (suc left) some past = rw (drop_all index bytes past) refl
 

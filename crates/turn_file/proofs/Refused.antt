@@ -15,8 +15,7 @@ use Rattle.turn_file.specs.Fault.{in_file, in_record, number_place, record_place
 use Rattle.turn_file.specs.declared.number.Group.{Group}
 use Rattle.turn_file.specs.declared.number.Group.TheVariants.{Last, More}
 use Rattle.turn_file.specs.Number.{group_of, group_before, judged, groups, number_at}
-use Rattle.turn_file.specs.Reading.{Stepped, in_order, next_step}
-use Rattle.turn_file.specs.Reading.{levels_step, level_step, script_step, schedule_step}
+use Rattle.turn_file.specs.Reading.{Stepped, in_order, next_step, levels_step, level_step, script_step, schedule_step}
 use Rattle.turn_file.specs.Record.{bind, with_kind, field_at, levels_at, algorithm_of, algorithm_at, fan_out_at}
 use Rattle.turn_file.specs.Field.{bad_levels, bad_fan_out, bad_limit, bad_script_number, bad_entry}
 use Rattle.turn_file.specs.Record.{limit_at, level_at, script_number_at, script_at, entry_at, entries_end, schedule_at}

@@ -12,8 +12,7 @@ use Rattle.turn_file.specs.Order.{record_spelling, LevelFits, ScriptFits, Comes}
 use Rattle.turn_file.specs.Reading.{level, script, schedule, Stepped, after_level, after_script}
 use Rattle.turn_file.specs.Reading.{levels_step, level_step, script_step, schedule_step, next_step}
 use Rattle.turn_file.specs.Field.{bad_script_number}
-use Rattle.turn_file.specs.Record.{limit_at, levels_at, level_at, script_at}
-use Rattle.turn_file.specs.Record.{entry_at, entries_end, schedule_at}
+use Rattle.turn_file.specs.Record.{limit_at, levels_at, level_at, script_at, entry_at, entries_end, schedule_at}
 use Rattle.turn_file.specs.Spelling.{spell, Bytes, Stands}
 use Rattle.turn_file.proofs.Fields.{bind_ok, fan_out_fits}
 use Rattle.turn_file.proofs.Spelled.{number_spelled, spell_short, stands_none, stands_both}

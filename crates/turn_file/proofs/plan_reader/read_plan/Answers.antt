@@ -3,8 +3,7 @@ use Rattle.std.proofs.lemmas.Result.{err_from_is_err_and}
 use Rattle.turn_file.specs.Plan.{plan_numbers, plan_of, with_item}
 use Rattle.turn_file.specs.Reading.{Handed, Stepped, Cursor, cursor_of, next_from, moved_on, seen_record, seen_answer}
 use Rattle.turn_file.proofs.Orders.{told}
-use Rattle.turn_file.proofs.Plans.{handed_some, handed_none, handed_fault, completed}
-use Rattle.turn_file.proofs.Plans.{refused, takes, goes_on}
+use Rattle.turn_file.proofs.Plans.{handed_some, handed_none, handed_fault, completed, refused, takes, goes_on}
 use Rattle.turn_file.proofs.plan_reader.read_plan.Goals as goal
 
 pub returns-in_err-record : goal.returns-in_err-record

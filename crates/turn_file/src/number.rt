@@ -42,7 +42,7 @@ pub fn read_number(file: &[u8], at: usize) -> Result<(u32, usize), NumberFault>
     let mut value = 0;
     let mut weight = 1;
     for (index, &byte) in bytes_from(file, at).iter().enumerate() {
-        // Four groups may come behind the first, and none behind the fifth, which ends the number.
+        // The fifth group ends the number, so the index is at most 4.
         match group_of(at, byte, 4 - index)? {
             Group::Last => return Ok((value + u32::from(byte) * weight, at + index + 1)),
             Group::More => {

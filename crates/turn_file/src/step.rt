@@ -2,8 +2,8 @@
 ghost use Rattle.std.specs.Prelude.{◌≡◌, ◌+◌, ◌<◌, ◌≤◌, length, SomeIff};
 ghost use Rattle.std.specs.List.{between};
 ghost use Rattle.turn_file.specs.Reading.{after_level, after_script, seen_next};
-ghost use Rattle.turn_file.specs.Scanning.{Steps};
 ghost use Rattle.turn_file.specs.Reading.{levels_step, level_step, script_step, schedule_step, next_step};
+ghost use Rattle.turn_file.specs.Scanning.{Steps};
 
 use crate::fault::{FileFault, RecordFault};
 use crate::field::Field;

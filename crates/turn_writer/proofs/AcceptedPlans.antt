@@ -18,7 +18,7 @@ use Rattle.turn_file.specs.Spelling.{spell}
 use Rattle.turn_file.proofs.Fields.{bind_ok}
 use Rattle.turn_file.proofs.Sound.{entries_short}
 use Rattle.turn_writer.specs.Judgement.{past, past_field, past_levels, past_scripts, past_header, past_entries}
-use Rattle.turn_writer.specs.Judgement.{in_file_order, and_then, past_entry_count, within_file, past_schedule}
+use Rattle.turn_writer.specs.Judgement.{in_file_order, past_entry_count, within_file, past_schedule}
 use Rattle.turn_writer.specs.Judgement.{file_length}
 use Rattle.turn_writer.specs.Records.{level_records, script_records, records_from, IsPlain}
 use Rattle.turn_writer.specs.Shape.{Shape}
@@ -34,10 +34,18 @@ pub header_ok : (r : Result ℕ RecordFault) (next : ℕ → Result ℕ FileFaul
 header_ok (Ok a) next n is = (a, refl, is)
 header_ok (Err f) next n is = cc
 
-pub counted_ok : (r : Result ℕ FileFault) (next : ℕ → Result ℕ FileFault) (n : ℕ) → and_then r next ≡ Ok n →
-    (a : ℕ) × (r ≡ Ok a) × (next a ≡ Ok n)
-counted_ok (Ok a) next n is = (a, refl, is)
-counted_ok (Err f) next n is = cc
+-- a length that is not refused
+within_longest : (n m : ℕ) → within_file n ≡ Ok m → (n ≤ longest_file) × (m ≡ n)
+within_longest n m is = let k = kept (ltb longest_file n) TooLong n m is in (ltb-false longest_file n k.0, sym k.1)
+
+-- a count of entries that is not refused
+count_within : (es : List ℕ) (at next : ℕ) → past_entry_count es at ≡ Ok next →
+    (length es ≤ longest_file) × (next ≡ past (length es) at)
+count_within es at next is =
+    let b = bind_ok (within_file (length es)) (λ n. Ok (past n at)) next is in
+    let w = within_longest (length es) b.0 b.1 in
+    let there : past b.0 at ≡ next = let e = b.2 in cc in
+    (w.0, sym there ∙ ap (λ n. past n at) w.1)
 
 -- what holds of a plan that is accepted
 pub record Accepted (count : ℕ) (ls : List Level) (ss : List Script) (es : List ℕ) (n : ℕ) : Type 0 where
@@ -51,16 +59,12 @@ schedule_accepted : (workers : ℕ) (es : List ℕ) (at n : ℕ) → past_schedu
     AllByRecursion (λ e. e < workers) es × (n ≡ at + (length (spell (length es)) + length (flat_map spell es)))
     × (n ≤ longest_file) × (length es ≤ longest_file)
 schedule_accepted workers es at n is =
-    let c = counted_ok (past_entry_count es at) _ n is in
-    let k = kept (ltb longest_file (length es)) TooLong (past (length es) at) c.0 c.1 in
+    let c = bind_ok (past_entry_count es at) _ n is in
+    let k = count_within es at c.0 c.1 in
     let b = header_ok (past_entries workers es c.0) within_file n c.2 in
-    let w = kept (ltb longest_file b.0) TooLong b.0 n b.2 in
-    let m = entries_come workers es c.0 b.0 b.1 in (
-      m.0,
-      omega (arith, m.1, k.1, w.1),
-      omega (arith, w.1, ltb-false longest_file b.0 w.0),
-      ltb-false longest_file (length es) k.0,
-    )
+    let w = within_longest b.0 n b.2 in
+    let m = entries_come workers es c.0 b.0 b.1 in
+    (m.0, omega (arith, m.1, k.1, w.1), omega (arith, w.0, w.1), k.0)
 
 parts_accepted : (count : ℕ) (ls : List Level) (ss : List Script) (es : List ℕ) (a b c n : ℕ) → length ls ≡ count →
     length ss ≡ product 1 ls →

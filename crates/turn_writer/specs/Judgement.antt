@@ -67,21 +67,18 @@ abbrev pub in_file_order : Result ℕ RecordFault → (ℕ → Result ℕ FileFa
 in_file_order (Ok at) next = next at
 in_file_order (Err f) next = Err (in_file f)
 
-abbrev pub and_then : Result ℕ FileFault → (ℕ → Result ℕ FileFault) → Result ℕ FileFault
-and_then (Ok at) next = next at
-and_then (Err f) next = Err f
+-- a file is at most so long
+abbrev pub within_file : ℕ → Result ℕ FileFault
+within_file n = cond (nat_lt longest_file n) (Err TooLong) (Ok n)
 
 -- the count of entries is judged before them
 abbrev pub past_entry_count : List ℕ → ℕ → Result ℕ FileFault
-past_entry_count es at = cond (nat_lt longest_file (length es)) (Err TooLong) (Ok (past (length es) at))
+past_entry_count es at = bind (within_file (length es)) (λ n. Ok (past n at))
 
 -- the length of the file is judged after all values
-abbrev pub within_file : ℕ → Result ℕ FileFault
-within_file end = cond (nat_lt longest_file end) (Err TooLong) (Ok end)
-
 abbrev pub past_schedule : ℕ → List ℕ → ℕ → Result ℕ FileFault
 past_schedule workers es at =
-    and_then (past_entry_count es at) (λ first. in_file_order (past_entries workers es first) within_file)
+    bind (past_entry_count es at) (λ first. in_file_order (past_entries workers es first) within_file)
 
 -- how long the plan's file is
 abbrev pub file_length : PlanNumbers → Result ℕ FileFault

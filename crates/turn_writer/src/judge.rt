@@ -6,8 +6,8 @@ ghost use Rattle.std.specs.List.{AllByRecursion};
 ghost use Rattle.turn_file.specs.Fault.{longest_file};
 ghost use Rattle.turn_file.specs.Plan.{plan_numbers};
 ghost use Rattle.turn_writer.specs.Judgement.{past, past_field, past_level, past_levels, past_script};
-ghost use Rattle.turn_writer.specs.Judgement.{past_scripts, past_entries, past_entry_count, past_schedule};
-ghost use Rattle.turn_writer.specs.Judgement.{past_header, file_length};
+ghost use Rattle.turn_writer.specs.Judgement.{past_scripts, past_entries, within_file, past_entry_count};
+ghost use Rattle.turn_writer.specs.Judgement.{past_schedule, past_header, file_length};
 ghost use Rattle.turn_writer.specs.Shape.{Word, Shape, Known};
 
 use crate::pen::number_size;
@@ -84,16 +84,24 @@ fn past_entries(at: usize, workers: u32, entries: &[u8]) -> Result<usize, Record
     entries.iter().try_fold(at, |next, entry| past_field(next, field, u32::from(*entry)))
 }
 
+// A file is at most so long.
+fn within_file(length: usize) -> Result<usize, FileFault>
+    ensures { result ≡ within_file length }
+{
+    if length > LONGEST_FILE {
+        return Err(FileFault::TooLong);
+    }
+    Ok(length)
+}
+
 // The count of entries is judged before them.
 fn past_entry_count(at: usize, entries: &[u8]) -> Result<usize, FileFault>
     requires { at < 2 ^ 16 }
     ensures end { result ≡ past_entry_count entries.now at }
     ensures words { AllByRecursion Word entries.now }
 {
-    if entries.len() > LONGEST_FILE {
-        return Err(FileFault::TooLong);
-    }
-    Ok(past(at, entries.len() as u32))
+    let count = within_file(entries.len())?;
+    Ok(past(at, count as u32))
 }
 
 // The length of the file is judged after all values.
@@ -103,11 +111,7 @@ fn past_schedule(at: usize, workers: u32, entries: &[u8]) -> Result<usize, FileF
     ensures words { AllByRecursion Word entries.now }
 {
     let first = past_entry_count(at, entries)?;
-    let end = past_entries(first, workers, entries)?;
-    if end > LONGEST_FILE {
-        return Err(FileFault::TooLong);
-    }
-    Ok(end)
+    within_file(past_entries(first, workers, entries)?)
 }
 
 // The count of levels. A caller also learns what the type of a plan says of its values.

@@ -2,8 +2,8 @@
 use Rattle.std.proofs.Common.{ℕ, zero, suc, ◌+◌, ◌/◌, ◌%◌, ◌^◌, ◌<◌, ◌≤◌, [], ◌∷◌, refl, arith}
 use Rattle.turn_file.specs.Spelling.{spell_in, spell}
 use Rattle.turn_file.proofs.Spelled.{limit, limit_more, limit_wide, spell_more}
-use Rattle.turn_writer.specs.Page.{Page, HasRoom, page_after}
-use Rattle.turn_writer.proofs.Pages.{Writing, one_more}
+use Rattle.turn_writer.specs.Page.{Page, page_after}
+use Rattle.turn_writer.proofs.Pages.{Fits, Writing, one_more}
 
 -- the spelling of `high` in at most so many groups is still to be written
 pub record Left (v : ℕ) (start now : Page) (high : ℕ) : Type 0 where
@@ -11,7 +11,7 @@ pub record Left (v : ℕ) (start now : Page) (high : ℕ) : Type 0 where
   pub few : high < limit (suc groups)
   pub writing : Writing (spell v) start (spell_in (suc groups) high) now
 
-pub left_all : (v : ℕ) (start : Page) → v < 2 ^ 32 → HasRoom (spell v) start → Left v start start v
+pub left_all : (v : ℕ) (start : Page) → v < 2 ^ 32 → Fits (spell v) start → Left v start start v
 left_all v start small room =
     record { groups = 4; few = omega arith; writing = record { same = refl; room = room } }
 

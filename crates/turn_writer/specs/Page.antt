@@ -1,5 +1,5 @@
 -- An output that is written from the front on.
-use Rattle.std.specs.Prelude.{ℕ, ◌≤◌, List, [], ◌++◌, length, take, drop}
+use Rattle.std.specs.Prelude.{◌≡◌, ℕ, ◌≤◌, List, [], ◌++◌, length, take, drop}
 use Rattle.std.specs.Borrow.{GName, MutBor}
 use Rattle.turn_writer.specs.declared.pen.Pen.{Pen}
 
@@ -17,9 +17,13 @@ abbrev pub blank_page : MutBor (List ℕ) → Page
 blank_page out = record { output = out.ghost_name; front = []; rest = out.now }
 
 -- there is space for these bytes
-abbrev pub HasRoom : List ℕ → Page → Type 0
-HasRoom bytes p = length bytes ≤ length p.rest
+abbrev pub HasRoom : List ℕ → Pen → Type 0
+HasRoom bytes pen = length bytes ≤ length (page pen).rest
 
 -- once these bytes are written too
 abbrev pub page_after : List ℕ → Page → Page
 page_after bytes p = record { output = p.output; front = p.front ++ bytes; rest = drop (length bytes) p.rest }
+
+-- a pen that wrote these bytes, and no others
+abbrev pub Wrote : List ℕ → Pen → Pen → Type 0
+Wrote bytes before after = page after ≡ page_after bytes (page before)

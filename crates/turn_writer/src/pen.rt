@@ -25,7 +25,7 @@ pub(crate) struct Pen<'a> {
 }
 
 impl<'a> Pen<'a> {
-    ghost use Rattle.turn_writer.specs.Page.{page, blank_page, HasRoom, page_after};
+    ghost use Rattle.turn_writer.specs.Page.{page, blank_page, HasRoom, Wrote};
 
     pub(crate) fn new(out: &'a mut [u8]) -> Pen<'a>
         ensures { page result ≡ blank_page out.entry }
@@ -34,8 +34,8 @@ impl<'a> Pen<'a> {
     }
 
     pub(crate) fn write_bytes(&mut self, bytes: &[u8])
-        requires { HasRoom bytes.now (page self.old) }
-        ensures { page self.new ≡ page_after bytes.now (page self.old) }
+        requires { HasRoom bytes.now self.old }
+        ensures { Wrote bytes.now self.old self.new }
     {
         let end = self.at + bytes.len();
         self.out[self.at..end].copy_from_slice(bytes);
@@ -43,15 +43,15 @@ impl<'a> Pen<'a> {
     }
 
     fn write_byte(&mut self, byte: u8)
-        requires { HasRoom (byte ∷ []) (page self.old) }
-        ensures { page self.new ≡ page_after (byte ∷ []) (page self.old) }
+        requires { HasRoom (byte ∷ []) self.old }
+        ensures { Wrote (byte ∷ []) self.old self.new }
     {
         self.write_bytes(&[byte]);
     }
 
     pub(crate) fn write_number(&mut self, value: u32)
-        requires { HasRoom (spell value) (page self.old) }
-        ensures { page self.new ≡ page_after (spell value) (page self.old) }
+        requires { HasRoom (spell value) self.old }
+        ensures { Wrote (spell value) self.old self.new }
     {
         let mut high = value;
         while high >= 0x80 {

@@ -2,7 +2,7 @@
 ghost use Rattle.std.specs.Prelude.{◌≡◌, ◌≤◌, ◌++◌, length, drop};
 ghost use Rattle.turn_file.specs.Plan.{plan_numbers};
 ghost use Rattle.turn_writer.specs.Judgement.{file_length};
-ghost use Rattle.turn_writer.specs.Page.{page, HasRoom, page_after};
+ghost use Rattle.turn_writer.specs.Page.{HasRoom, Wrote};
 ghost use Rattle.turn_writer.specs.Records.{header_spelling, schedule_spelling, plan_spelling, IsPlain};
 ghost use Rattle.turn_writer.specs.Writing.{written_length, output_after, Writes, Measures};
 
@@ -14,8 +14,8 @@ use turn_file::plan::Plan;
 
 // All that stands before the count of entries.
 fn write_header(pen: &mut Pen<'_>, plan: &Plan<'_>)
-    requires { HasRoom (header_spelling (plan_numbers plan.now)) (page pen.old) }
-    ensures { page pen.new ≡ page_after (header_spelling (plan_numbers plan.now)) (page pen.old) }
+    requires { HasRoom (header_spelling (plan_numbers plan.now)) pen.old }
+    ensures { Wrote (header_spelling (plan_numbers plan.now)) pen.old pen.new }
 {
     pen.write_number(plan.level_count);
     write_levels(pen, plan.used_levels());
@@ -25,8 +25,8 @@ fn write_header(pen: &mut Pen<'_>, plan: &Plan<'_>)
 // Entries are copied, since each is its own spelling.
 fn write_schedule(pen: &mut Pen<'_>, entries: &[u8])
     requires plain { IsPlain entries.now }
-    requires room { HasRoom (schedule_spelling entries.now) (page pen.old) }
-    ensures { page pen.new ≡ page_after (schedule_spelling entries.now) (page pen.old) }
+    requires room { HasRoom (schedule_spelling entries.now) pen.old }
+    ensures { Wrote (schedule_spelling entries.now) pen.old pen.new }
 {
     pen.write_number(entries.len() as u32);
     pen.write_bytes(entries);
@@ -34,8 +34,8 @@ fn write_schedule(pen: &mut Pen<'_>, entries: &[u8])
 
 fn write_records(pen: &mut Pen<'_>, plan: &Plan<'_>)
     requires plain { IsPlain (plan_numbers plan.now).entries }
-    requires room { HasRoom (plan_spelling (plan_numbers plan.now)) (page pen.old) }
-    ensures { page pen.new ≡ page_after (plan_spelling (plan_numbers plan.now)) (page pen.old) }
+    requires room { HasRoom (plan_spelling (plan_numbers plan.now)) pen.old }
+    ensures { Wrote (plan_spelling (plan_numbers plan.now)) pen.old pen.new }
 {
     write_header(pen, plan);
     write_schedule(pen, plan.schedule);

@@ -18,7 +18,7 @@ use Rattle.turn_file.specs.Spelling.{spell}
 abbrev pub past : ℕ → ℕ → ℕ
 past n at = at + length (spell n)
 
--- a number that its field refuses; else the place after it
+-- the fault of a number that its field refuses, or else the place after it
 abbrev pub past_field : Field → ℕ → ℕ → Result ℕ RecordFault
 past_field field n at = cond (field_refuses field n) (Err (field_fault field at)) (Ok (past n at))
 

@@ -22,7 +22,7 @@ pub record Shape (p : PlanNumbers) : Type 0 where
   pub sixty_four : length p.scripts ≡ 64
   pub scripts : AllByRecursion ScriptWords p.scripts
 
--- the entries are known once they are looked at
+-- the code reads the entries only behind a header that is not refused
 pub record Known (p : PlanNumbers) : Type 0 where
   pub shape : Shape p
   pub entries : (at : ℕ) → past_header p ≡ Ok at → AllByRecursion Word p.entries

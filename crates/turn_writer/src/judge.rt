@@ -1,20 +1,33 @@
 // Judges a plan number by number, in the order of a file. A number is judged where it would stand:
 // each answer is the place after what was judged, or a fault with the place of the number.
-// Places are far below what a usize holds, which the bounds on `at` say.
+// `at` is below 2^16 before the schedule, 2^20 before a row, 2^31 before one record, 2^32 before one number.
 ghost use Rattle.std.specs.Prelude.{◌≡◌, ◌^◌, ◌<◌, ◌≤◌, length};
 ghost use Rattle.std.specs.List.{AllByRecursion};
 ghost use Rattle.turn_file.specs.Fault.{longest_file};
 ghost use Rattle.turn_file.specs.Plan.{plan_numbers};
+ghost use Rattle.turn_file.specs.Spelling.{spell};
 ghost use Rattle.turn_writer.specs.Judgement.{past, past_field, past_level, past_levels, past_script};
 ghost use Rattle.turn_writer.specs.Judgement.{past_scripts, past_entries, within_file, past_entry_count};
 ghost use Rattle.turn_writer.specs.Judgement.{past_schedule, past_header, file_length};
 ghost use Rattle.turn_writer.specs.Shape.{Word, Shape, Known};
 
-use crate::pen::number_size;
 use turn_file::fault::{FileFault, RecordFault};
 use turn_file::field::Field;
 use turn_file::limits::LONGEST_FILE;
 use turn_file::plan::{Level, Plan, Script};
+
+// How many bytes a number takes.
+fn number_size(value: u32) -> usize
+    ensures { result ≡ length (spell value) }
+{
+    match value {
+        0..=0x7f => 1,
+        0x80..=0x3fff => 2,
+        0x4000..=0x1f_ffff => 3,
+        0x20_0000..=0xfff_ffff => 4,
+        _ => 5,
+    }
+}
 
 // The place after a number at `at`.
 fn past(at: usize, value: u32) -> usize
@@ -46,6 +59,7 @@ fn past_level(at: usize, rank: usize, parties: u32, level: &Level) -> Result<usi
     past_field(at_limit, Field::HandoffLimit, level.handoff_limit)
 }
 
+// Levels, the top level first. `parties` is the product of the fan-outs so far.
 fn past_levels(at: usize, levels: &[Level]) -> Result<usize, RecordFault>
     requires { (at < 2 ^ 20) × (length levels.now ≤ 4) }
     ensures { result ≡ past_levels 0 1 levels.now at }

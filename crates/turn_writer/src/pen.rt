@@ -3,19 +3,6 @@
 ghost use Rattle.std.specs.Prelude.{◌≡◌, ◌≤◌, [], ◌∷◌, length};
 ghost use Rattle.turn_file.specs.Spelling.{spell};
 
-// How many bytes a number takes.
-pub(crate) fn number_size(value: u32) -> usize
-    ensures { result ≡ length (spell value) }
-{
-    match value {
-        0..=0x7f => 1,
-        0x80..=0x3fff => 2,
-        0x4000..=0x1f_ffff => 3,
-        0x20_0000..=0xfff_ffff => 4,
-        _ => 5,
-    }
-}
-
 // An output, and the place that the next byte goes to.
 #[derive(Drop)]
 pub(crate) struct Pen<'a> {

@@ -1,45 +1,14 @@
 // Writes a whole plan.
-ghost use Rattle.std.specs.Prelude.{◌≡◌, ◌≤◌, ◌++◌, length, drop};
+ghost use Rattle.std.specs.Prelude.{◌≡◌, length};
 ghost use Rattle.turn_file.specs.Plan.{plan_numbers};
 ghost use Rattle.turn_writer.specs.Judgement.{file_length};
-ghost use Rattle.turn_writer.specs.Page.{HasRoom, Wrote};
-ghost use Rattle.turn_writer.specs.Records.{header_spelling, schedule_spelling, plan_spelling, IsPlain};
 ghost use Rattle.turn_writer.specs.Writing.{written_length, output_after, Writes, Measures};
 
 use crate::judge::past_plan;
 use crate::pen::Pen;
-use crate::record_writer::{write_levels, write_scripts};
+use crate::record_writer::write_records;
 use turn_file::fault::FileFault;
 use turn_file::plan::Plan;
-
-// All that stands before the count of entries.
-fn write_header(pen: &mut Pen<'_>, plan: &Plan<'_>)
-    requires { HasRoom (header_spelling (plan_numbers plan.now)) pen.old }
-    ensures { Wrote (header_spelling (plan_numbers plan.now)) pen.old pen.new }
-{
-    pen.write_number(plan.level_count);
-    write_levels(pen, plan.used_levels());
-    write_scripts(pen, plan.used_scripts());
-}
-
-// Entries are copied, since each is its own spelling.
-fn write_schedule(pen: &mut Pen<'_>, entries: &[u8])
-    requires plain { IsPlain entries.now }
-    requires room { HasRoom (schedule_spelling entries.now) pen.old }
-    ensures { Wrote (schedule_spelling entries.now) pen.old pen.new }
-{
-    pen.write_number(entries.len() as u32);
-    pen.write_bytes(entries);
-}
-
-fn write_records(pen: &mut Pen<'_>, plan: &Plan<'_>)
-    requires plain { IsPlain (plan_numbers plan.now).entries }
-    requires room { HasRoom (plan_spelling (plan_numbers plan.now)) pen.old }
-    ensures { Wrote (plan_spelling (plan_numbers plan.now)) pen.old pen.new }
-{
-    write_header(pen, plan);
-    write_schedule(pen, plan.schedule);
-}
 
 // How long the plan's file is, or why the plan cannot be written, whatever space there is.
 pub fn file_length(plan: &Plan<'_>) -> Result<usize, FileFault>

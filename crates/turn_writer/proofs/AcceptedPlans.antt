@@ -25,7 +25,7 @@ use Rattle.turn_writer.specs.Shape.{Shape}
 use Rattle.turn_writer.proofs.AcceptedRecords.{in_order_both, product, levels_reach, levels_come, workers_few}
 use Rattle.turn_writer.proofs.AcceptedRecords.{scripts_reach, scripts_come, entries_come}
 use Rattle.turn_writer.proofs.Parts.{sizes}
-use Rattle.turn_writer.proofs.Sizes.{field_past}
+use Rattle.turn_writer.proofs.Sizes.{field_fits}
 use Rattle.turn_writer.proofs.Refusals.{kept}
 
 -- what was judged first, and what came of it
@@ -71,14 +71,14 @@ parts_accepted : (count : ℕ) (ls : List Level) (ss : List Script) (es : List �
     past_field LevelCount count 0 ≡ Ok a → past_levels 0 1 ls a ≡ Ok b → past_scripts ss b ≡ Ok c →
     past_schedule (product 1 ls) es c ≡ Ok n → Accepted count ls ss es n
 parts_accepted count [] ss es a b c n all_levels all_scripts first second third last =
-    let k = field_past LevelCount count 0 a first in
+    let k = field_fits LevelCount count 0 a first in
     let fits = k.0 in
     let some : 1 ≤ count = grind (arith, nat_tests) in
     absurd (omega arith)
 parts_accepted count (l ∷ ls) [] es a b c n all_levels all_scripts first second third last =
     let w = workers_few 0 1 (l ∷ ls) a b (omega arith) (omega arith) second in absurd (omega (arith, w.0))
 parts_accepted count (l ∷ ls) (s ∷ ss) es a b c n all_levels all_scripts first second third last =
-    let k = field_past LevelCount count 0 a first in
+    let k = field_fits LevelCount count 0 a first in
     let fits = k.0 in
     let some : 1 ≤ count = grind (arith, nat_tests) in
     let most : count ≤ 4 = grind (arith, nat_tests) in
@@ -102,8 +102,7 @@ parts_accepted count (l ∷ ls) (s ∷ ss) es a b c n all_levels all_scripts fir
         levels_reach 0 1 (l ∷ ls) a b second,
         scripts_reach 0 (s ∷ ss) b c third,
         entries.1,
-        ap length plain,
-        sizes count (l ∷ ls) (s ∷ ss) es es plain,
+        sizes count (l ∷ ls) (s ∷ ss) es,
       );
       short = entries.2;
       plain = record { own = plain; counted = omega (arith, entries.3) };
@@ -113,7 +112,7 @@ parts_accepted count (l ∷ ls) (s ∷ ss) es a b c n all_levels all_scripts fir
 pub count_used : (p : PlanNumbers) (a : ℕ) → Shape p → past_field LevelCount p.count 0 ≡ Ok a →
     (length (used_levels p) ≡ p.count) × (1 ≤ p.count) × (p.count ≤ 4) × (a ≡ past p.count 0)
 count_used p a shape first =
-    let k = field_past LevelCount p.count 0 a first in
+    let k = field_fits LevelCount p.count 0 a first in
     let fits = k.0 in
     let some : 1 ≤ p.count = grind (arith, nat_tests) in
     let most : p.count ≤ 4 = grind (arith, nat_tests) in

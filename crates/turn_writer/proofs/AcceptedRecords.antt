@@ -18,7 +18,7 @@ use Rattle.turn_writer.specs.Judgement.{past, past_field, past_limit, past_level
 use Rattle.turn_writer.specs.Judgement.{past_script, past_scripts, past_entries}
 use Rattle.turn_writer.specs.Records.{used_level, level_records, script_records, level_spelling, script_spelling}
 use Rattle.turn_writer.specs.Records.{levels_spelling, scripts_spelling}
-use Rattle.turn_writer.proofs.Sizes.{field_past}
+use Rattle.turn_writer.proofs.Sizes.{field_fits}
 use Rattle.turn_writer.proofs.Stages.{after_level_more, after_level_last, after_script_more, after_script_last}
 
 pub in_order_both : (from : Stage) (xs ys : List Item) (mid to : Stage) → InOrder from xs mid → InOrder mid ys to →
@@ -38,7 +38,7 @@ limit_fits rank n at next is =
           let here : at ≡ next = cc in
           simp t.0 (inl (t.1, refl), omega arith)
       | inr t ↦
-          let k = field_past HandoffLimit n at next (simp t.0 at is) in
+          let k = field_fits HandoffLimit n at next (simp t.0 at is) in
           let fits = k.0 in
           let some : 1 ≤ n = grind (arith, nat_tests) in
           let few : n ≤ 65535 = grind (arith, nat_tests) in
@@ -52,7 +52,7 @@ pub level_comes : (rank count parties : ℕ) (l : Level) (at next : ℕ) → pas
     × (next ≡ at + length (level_spelling rank l)) × (1 ≤ l.fan_out) × (parties * l.fan_out ≤ 64)
 level_comes rank count parties l at next is =
     let b = bind_ok (past_field (FanOut parties) l.fan_out (past (algorithm_number l.algorithm) at)) _ next is in
-    let f = field_past (FanOut parties) l.fan_out _ b.0 b.1 in
+    let f = field_fits (FanOut parties) l.fan_out _ b.0 b.1 in
     let fits = fan_out_fits parties l.fan_out f.0 in
     let h = limit_fits rank l.handoff_limit b.0 next b.2 in (
       (used_level rank l, refl, record { some = fits.0; few = fits.1; limit = h.0 }, refl),
@@ -110,7 +110,7 @@ workers_few rank parties (l ∷ ls) at next some few is =
 
 script_number_fits : (n at next : ℕ) → past_field ScriptNumber n at ≡ Ok next → (n ≤ 65535) × (next ≡ past n at)
 script_number_fits n at next is =
-    let k = field_past ScriptNumber n at next is in
+    let k = field_fits ScriptNumber n at next is in
     let fits = k.0 in
     (grind (arith, nat_tests), k.1)
 
@@ -161,7 +161,7 @@ pub entries_come : (workers : ℕ) (es : List ℕ) (at next : ℕ) → past_entr
 entries_come workers [] at next is = let done : at ≡ next = cc in (tt, omega arith)
 entries_come workers (e ∷ es) at next is =
     let b = bind_ok (past_field (Entry workers) e at) _ next is in
-    let k = field_past (Entry workers) e at b.0 b.1 in
+    let k = field_fits (Entry workers) e at b.0 b.1 in
     let fits = k.0 in
     let rest = entries_come workers es b.0 next b.2 in (
       (grind (arith, nat_tests), rest.0),

@@ -1,11 +1,14 @@
 -- A `try_fold` that takes a place past the items of a slice, one behind the other.
-use Rattle.std.proofs.Common.{◌≡◌, ℕ, ◌+◌, ◌*◌, ◌<◌, ◌≤◌, List, [], ◌∷◌, length, Some, None, Ok, Err, IsErr, Result, Bor, Iter, sym, ap, ◌∙◌, subst, arith}
+use Rattle.std.proofs.Common.{◌≡◌, ℕ, ◌+◌, ◌*◌, ◌<◌, ◌≤◌, List, [], ◌∷◌, length, Some, None, Ok, Err, IsErr, Result, Bor, Iter, sym, refl, ap, ◌∙◌, subst, arith}
 use Rattle.std.specs.Fn.{Called, Takes}
 use Rattle.std.specs.Iterator.{Yields, TryFoldTurn, TryFoldsItems, CallableAtEachTurn}
 use Rattle.std.specs.List.{FoldsTo}
 use Rattle.std.specs.Result.{IsErrAnd, result_from_control_flow}
 use Rattle.std.proofs.lemmas.Fn.{fronts}
+use Rattle.std.proofs.lemmas.Iterator.{YieldsList-from_slice}
+use Rattle.std.proofs.lemmas.Iterator.Adapters.{serves_from_total}
 use Rattle.std.proofs.lemmas.List.{nil_from_length}
+use Rattle.std.proofs.lemmas.List.Sums.{sum_by-le}
 use Rattle.std.proofs.lemmas.Result.{err_from_is_err_and}
 use denote.Param.Members.{Mut}
 use Rattle.turn_file.specs.declared.fault.RecordFault.{RecordFault}
@@ -58,20 +61,12 @@ module _ {A F : Type 0} (g : Mut F (ℕ × (Bor A × Unit {0})) (Result ℕ Reco
   -- where each call goes on by so many places at most, and needs the place to be low
   module _ (size high : ℕ) (near : (x : A) (at next : ℕ) → one x at ≡ Ok next → next ≤ at + size)
       (takes : (at : ℕ) (x : Bor A) → at < high → Takes g f (at, (x, tt))) where
-    reach : (xs : List (Bor A)) (s t : Iter A) (at : ℕ) (last : F × ℕ) → Yields fronts s xs t →
-        FoldsTo Turn (f, at) xs last →
-        last.1 + size * length t.rest.now ≤ at + size * length s.rest.now
-    reach [] s t at last y c = omega (arith, ap (λ s. size * length s.rest.now) y, ap (λ p. p.1) c)
-    reach (x ∷ xs) s t at last (i, first, y) (m, (r, called, on), c) =
-        let k = calls m.0 at x r called in
-        let here = near x.now at m.1 (sym k.1 ∙ on) in
-        let rest = reach xs i t m.1 last y (subst (λ h. FoldsTo Turn (h, m.1) xs last) k.0 c) in
-        omega (arith, here, ap (λ items. size * length items) first, rest)
+    raises : (at : ℕ) (x : Bor A) (p : F × ℕ) → Turn (f, at) x p → (p.0 ≡ f) × (p.1 ≤ at + size)
+    raises at x p (r, called, on) = let k = calls p.0 at x r called in (k.0, near x.now at p.1 (sym k.1 ∙ on))
 
-    pub served : (s : Iter A) (at : ℕ) → at + size * length s.rest.now < high →
+    pub served : (s : Iter A) (at : ℕ) → at + length s.rest.now * size < high →
         CallableAtEachTurn {P = F × ℕ} fronts Turn (λ p x. Takes g p.0 (p.1, (x, tt))) s (f, at)
-    served s at low = record {
-      at = λ xs t q x u y c e.
-          subst (λ h. Takes g h (q.1, (x, tt))) (sym (along xs s t at q y c).0)
-          (takes q.1 x (omega (arith, low, reach xs s t at q y c)));
-    }
+    served s at low =
+        let most = sum_by-le (λ x. size) size s.rest.now (λ k d within. omega arith) in
+        serves_from_total (YieldsList-from_slice s.rest.now refl) (λ x. size) raises
+        (λ n x within. takes n x (omega (arith, low, most, within)))

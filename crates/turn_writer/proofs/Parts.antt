@@ -9,14 +9,14 @@ use Rattle.turn_file.specs.Spelling.{spell}
 use Rattle.turn_writer.specs.Records.{records_from}
 use Rattle.turn_writer.specs.Records.{levels_spelling, scripts_spelling}
 
--- the bytes of a plan, where its entries have these bytes
-pub parts : (count : ℕ) (ls : List Level) (ss : List Script) (es bytes : List ℕ) → flat_map spell es ≡ bytes →
+-- the bytes of a plan
+pub parts : (count : ℕ) (ls : List Level) (ss : List Script) (es : List ℕ) →
     spelling (records_from count ls ss es)
-    ≡ spell count ++ (levels_spelling 0 ls ++ (scripts_spelling 0 ss ++ (spell (length es) ++ bytes)))
-parts count ls ss es bytes is = simp (flat_map-append, append-nil, is)
+    ≡ spell count ++ (levels_spelling 0 ls ++ (scripts_spelling 0 ss ++ (spell (length es) ++ flat_map spell es)))
+parts count ls ss es = simp (flat_map-append, append-nil)
 
-pub sizes : (count : ℕ) (ls : List Level) (ss : List Script) (es bytes : List ℕ) → flat_map spell es ≡ bytes →
+pub sizes : (count : ℕ) (ls : List Level) (ss : List Script) (es : List ℕ) →
     length (spelling (records_from count ls ss es))
     ≡ length (spell count) + (length (levels_spelling 0 ls) + (length (scripts_spelling 0 ss)
-    + (length (spell (length es)) + length bytes)))
-sizes count ls ss es bytes is = ap length (parts count ls ss es bytes is) ∙ simp length-append
+    + (length (spell (length es)) + length (flat_map spell es))))
+sizes count ls ss es = ap length (parts count ls ss es) ∙ simp length-append

@@ -1,6 +1,7 @@
 -- Why a plan is refused: by one of its records, or by its length.
-use Rattle.std.proofs.Common.{◌≡◌, ℕ, zero, suc, ◌+◌, ◌<◌, ◌≤◌, ltb, ◌⊎◌, List, [], ◌∷◌, length, take, Ok, Err, Result, sym, refl, ap, ◌∙◌, inl, inr, arith, length-append}
+use Rattle.std.proofs.Common.{◌≡◌, ℕ, ◌+◌, ◌<◌, ◌≤◌, ltb, ◌⊎◌, List, [], ◌∷◌, length, take, Ok, Err, Result, sym, refl, ap, ◌∙◌, inl, inr, arith, length-append}
 use Rattle.std.proofs.lemmas.Bool.{cases_lt, lt-ltb, le-ltb, ltb-true}
+use Rattle.std.proofs.lemmas.List.Elements.{All-take, All-from_recursion, recursion_from_All}
 use Rattle.std.specs.List.{flat_map, AllByRecursion}
 use Rattle.turn_file.specs.declared.fault.FileFault.{FileFault}
 use Rattle.turn_file.specs.declared.fault.FileFault.TheVariants.{TooLong}
@@ -28,9 +29,7 @@ use Rattle.turn_writer.proofs.Refusals.{refused}
 use Rattle.std.proofs.lemmas.Bool.Decides.{nat_tests}
 
 every_take : {X : Type 0} (P : X → Type 0) (n : ℕ) (xs : List X) → AllByRecursion P xs → AllByRecursion P (take n xs)
-every_take P zero xs each = tt
-every_take P (suc n) [] each = tt
-every_take P (suc n) (x ∷ xs) each = (each.0, every_take P n xs each.1)
+every_take P n xs each = recursion_from_All P _ (All-take P n xs (All-from_recursion P xs each))
 
 -- a header that is refused
 header_stops : (p : PlanNumbers) (f : RecordFault) → Shape p → past_header p ≡ Err f →
@@ -178,7 +177,7 @@ plan_too_long p shape is =
           arith,
           many,
           entries_long p.entries,
-          sizes p.count (used_levels p) (used_scripts p) p.entries (flat_map spell p.entries) refl,
+          sizes p.count (used_levels p) (used_scripts p) p.entries,
         )
     by_fault {at} h (no_worker g few is wrong) = absurd (cc wrong)
     by_fault {at} h (ends_late end is late same) =
@@ -189,7 +188,7 @@ plan_too_long p shape is =
           m.1,
           h.ends_levels,
           h.ends_scripts,
-          sizes p.count (used_levels p) (used_scripts p) p.entries (flat_map spell p.entries) refl,
+          sizes p.count (used_levels p) (used_scripts p) p.entries,
         )
 
 -- a plan is refused by one of its records, or by its length

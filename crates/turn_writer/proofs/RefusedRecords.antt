@@ -22,7 +22,7 @@ use Rattle.turn_file.proofs.Spelled.{spelled_number, stands_split}
 use Rattle.turn_writer.specs.Judgement.{past, past_field, past_limit, past_level, past_script, past_entries}
 use Rattle.turn_writer.specs.Records.{level_spelling, script_spelling}
 use Rattle.turn_writer.specs.Shape.{Word, LevelWords, ScriptWords}
-use Rattle.turn_writer.proofs.Sizes.{field_past}
+use Rattle.turn_writer.proofs.Sizes.{field_fits}
 use Rattle.turn_writer.proofs.Refusals.{refused}
 
 -- nothing comes of what was refused
@@ -46,7 +46,7 @@ module _ (file : List ℕ) where
       past_field field n at ≡ Ok next → value_at field file at ≡ Ok (n, to)
   field_read field n at to next small s is =
       field_is (field_kind field) (field_refuses field) (field_fault field at) file at (n, to)
-      (spelled_number file at n to small s) (field_past field n at next is).0
+      (spelled_number file at n to small s) (field_fits field n at next is).0
 
   limit_refused : (rank n at to : ℕ) (g : RecordFault) → Word n →
       Stands (cond (eqb rank 0) [] (spell (cond (eqb rank 0) 0 n))) file at to → past_limit rank n at ≡ Err g →
@@ -70,7 +70,7 @@ module _ (file : List ℕ) where
       (elim (bind_err (past_field (FanOut parties) n (past a at)) _ g is) [
         | inl e ↦ stop _ (field_refused (FanOut parties) n (past a at) _ g small.0 second.0 e)
         | inr e ↦
-            let k = field_past (FanOut parties) n (past a at) e.0 e.1 in
+            let k = field_fits (FanOut parties) n (past a at) e.0 e.1 in
             bind_is _ (field_read (FanOut parties) n (past a at) _ e.0 small.0 second.0 e.1)
             (stop _ (limit_refused rank l.handoff_limit (past n (past a at)) to g small.1 second.1
             (ap (past_limit rank l.handoff_limit) (sym k.1) ∙ e.2)))
@@ -84,14 +84,14 @@ module _ (file : List ℕ) where
       elim (bind_err (past_field ScriptNumber t.turns at) _ g is) [
         | inl e ↦ stop _ (field_refused ScriptNumber t.turns at _ g small.0 first.0 e)
         | inr e ↦
-            let k = field_past ScriptNumber t.turns at e.0 e.1 in
+            let k = field_fits ScriptNumber t.turns at e.0 e.1 in
             let onward = ap (λ n. bind (past_field ScriptNumber t.rest n) (λ m. past_field ScriptNumber t.hold m))
             (sym k.1) ∙ e.2 in
             bind_is _ (field_read ScriptNumber t.turns at _ e.0 small.0 first.0 e.1)
             (elim (bind_err (past_field ScriptNumber t.rest (past t.turns at)) _ g onward) [
               | inl f ↦ stop _ (field_refused ScriptNumber t.rest (past t.turns at) _ g small.1 second.0 f)
               | inr f ↦
-                  let m = field_past ScriptNumber t.rest (past t.turns at) f.0 f.1 in
+                  let m = field_fits ScriptNumber t.rest (past t.turns at) f.0 f.1 in
                   bind_is _ (field_read ScriptNumber t.rest (past t.turns at) _ f.0 small.1 second.0 f.1)
                   (stop _ (field_refused ScriptNumber t.hold (past t.rest (past t.turns at)) to g small.2
                   second.1 (ap (past_field ScriptNumber t.hold) (sym m.1) ∙ f.2)))
@@ -107,7 +107,7 @@ module _ (file : List ℕ) where
       elim (bind_err (past_field (Entry workers) e at) _ g is) [
         | inl f ↦ stop _ (field_refused (Entry workers) e at _ g small.0 first.0 f)
         | inr f ↦
-            let k = field_past (Entry workers) e at f.0 f.1 in
+            let k = field_fits (Entry workers) e at f.0 f.1 in
             bind_is _ (field_read (Entry workers) e at _ f.0 small.0 first.0 f.1)
             (entries_refused workers es (past e at) to g small.1 first.1
             (ap (past_entries workers es) (sym k.1) ∙ f.2))

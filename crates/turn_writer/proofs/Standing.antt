@@ -34,7 +34,7 @@ pub standing : (count : ℕ) (ls : List Level) (ss : List Script) (es : List ℕ
 standing count ls ss es =
     let file : List ℕ = spelling (records_from count ls ss es) in
     let first = stands_split (spell count) _ file 0 (length file)
-    (stands_whole _ file (parts count ls ss es (flat_map spell es) refl)) in
+    (stands_whole _ file (parts count ls ss es)) in
     let second = stands_split (levels_spelling 0 ls) _ file (past count 0) (length file) first.1 in
     let third = stands_split (scripts_spelling 0 ss) (spell (length es) ++ flat_map spell es) file _ (length file)
     second.1 in

@@ -17,19 +17,16 @@ use Rattle.turn_file.specs.Plan.{PlanNumbers, used_levels, workers_of, used_scri
 use Rattle.turn_file.specs.Spelling.{spell}
 use Rattle.turn_file.proofs.Fields.{bind_ok}
 use Rattle.turn_file.proofs.Sound.{entries_short}
-use Rattle.turn_writer.specs.Judgement.{past, past_field, past_levels, past_scripts, past_header, past_entries}
-use Rattle.turn_writer.specs.Judgement.{in_file_order, past_entry_count, within_file, past_schedule}
-use Rattle.turn_writer.specs.Judgement.{file_length}
+use Rattle.turn_writer.specs.Judgement.{past, past_field, past_levels, past_scripts, past_header, past_entries, in_file_order, past_entry_count, within_file, past_schedule, file_length}
 use Rattle.turn_writer.specs.Records.{level_records, script_records, records_from, IsPlain}
 use Rattle.turn_writer.specs.Shape.{Shape}
-use Rattle.turn_writer.proofs.AcceptedRecords.{in_order_both, product, levels_reach, levels_come, workers_few}
-use Rattle.turn_writer.proofs.AcceptedRecords.{scripts_reach, scripts_come, entries_come}
+use Rattle.turn_writer.proofs.AcceptedRecords.{in_order_both, product, levels_reach, levels_come, workers_few, scripts_reach, scripts_come, entries_come}
 use Rattle.turn_writer.proofs.Parts.{sizes}
 use Rattle.turn_writer.proofs.Sizes.{field_fits}
 use Rattle.turn_writer.proofs.Refusals.{kept}
 
 -- what was judged first, and what came of it
-pub header_ok : (r : Result ℕ RecordFault) (next : ℕ → Result ℕ FileFault) (n : ℕ) → in_file_order r next ≡ Ok n →
+header_ok : (r : Result ℕ RecordFault) (next : ℕ → Result ℕ FileFault) (n : ℕ) → in_file_order r next ≡ Ok n →
     (a : ℕ) × (r ≡ Ok a) × (next a ≡ Ok n)
 header_ok (Ok a) next n is = (a, refl, is)
 header_ok (Err f) next n is = cc

@@ -14,10 +14,8 @@ use Rattle.turn_file.specs.Reading.{Item, level, after_level, after_script}
 use Rattle.turn_file.specs.Algorithm.{algorithm_number}
 use Rattle.turn_file.specs.Spelling.{spell}
 use Rattle.turn_file.proofs.Fields.{bind_ok, fan_out_fits}
-use Rattle.turn_writer.specs.Judgement.{past, past_field, past_limit, past_level, past_levels}
-use Rattle.turn_writer.specs.Judgement.{past_script, past_scripts, past_entries}
-use Rattle.turn_writer.specs.Records.{used_level, level_records, script_records, level_spelling, script_spelling}
-use Rattle.turn_writer.specs.Records.{levels_spelling, scripts_spelling}
+use Rattle.turn_writer.specs.Judgement.{past, past_field, past_limit, past_level, past_levels, past_script, past_scripts, past_entries}
+use Rattle.turn_writer.specs.Records.{used_level, level_records, script_records, level_spelling, script_spelling, levels_spelling, scripts_spelling}
 use Rattle.turn_writer.proofs.Sizes.{field_fits}
 use Rattle.turn_writer.proofs.Stages.{after_level_more, after_level_last, after_script_more, after_script_last}
 

@@ -5,12 +5,10 @@ use Rattle.turn_file.specs.declared.plan.Level.{Level}
 use Rattle.turn_file.specs.declared.plan.Script.{Script}
 use Rattle.turn_file.specs.declared.step.Stage.TheVariants as stage
 use Rattle.turn_file.specs.Order.{InOrder}
-use Rattle.turn_file.specs.Plan.{PlanNumbers, lanes_below, with_item, blank_plan, no_level, no_script}
-use Rattle.turn_file.specs.Plan.{used_levels, workers_of, used_scripts}
+use Rattle.turn_file.specs.Plan.{PlanNumbers, lanes_below, with_item, blank_plan, no_level, no_script, used_levels, workers_of, used_scripts}
 use Rattle.turn_file.specs.Reading.{Item, levels, schedule}
 use Rattle.turn_writer.specs.Records.{script_records, records_from, records_of}
-use Rattle.turn_writer.proofs.Rows.{put_row, take_whole_row, used_row, length_used_row, records_used_row}
-use Rattle.turn_writer.proofs.Rows.{workers_used_row, levels_entered, scripts_entered}
+use Rattle.turn_writer.proofs.Rows.{put_row, take_whole_row, used_row, length_used_row, records_used_row, workers_used_row, levels_entered, scripts_entered}
 use Rattle.turn_writer.proofs.Sections.{in_parts}
 
 -- a blank plan that these parts are entered into

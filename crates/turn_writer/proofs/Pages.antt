@@ -8,11 +8,11 @@ abbrev pub Fits : List ℕ → Page → Type 0
 Fits bytes p = length bytes ≤ length p.rest
 
 -- what is written one behind the other is written together
-pub page_after_both : (xs ys : List ℕ) (p : Page) → page_after ys (page_after xs p) ≡ page_after (xs ++ ys) p
+page_after_both : (xs ys : List ℕ) (p : Page) → page_after ys (page_after xs p) ≡ page_after (xs ++ ys) p
 page_after_both xs ys p = simp (append_assoc, drop-drop, length-append)
 
 -- there is space for the second behind the first
-pub room_second : (xs ys : List ℕ) (p : Page) → Fits (xs ++ ys) p → Fits ys (page_after xs p)
+room_second : (xs ys : List ℕ) (p : Page) → Fits (xs ++ ys) p → Fits ys (page_after xs p)
 room_second xs ys p room = omega (arith, room, length-append {A = ℕ}, length-drop {A = ℕ})
 
 -- of `whole`, which is to be written on the page `start`, `left` is still to be written

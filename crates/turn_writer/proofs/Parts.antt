@@ -6,8 +6,7 @@ use Rattle.turn_file.specs.declared.plan.Level.{Level}
 use Rattle.turn_file.specs.declared.plan.Script.{Script}
 use Rattle.turn_file.specs.Order.{spelling}
 use Rattle.turn_file.specs.Spelling.{spell}
-use Rattle.turn_writer.specs.Records.{records_from}
-use Rattle.turn_writer.specs.Records.{levels_spelling, scripts_spelling}
+use Rattle.turn_writer.specs.Records.{records_from, levels_spelling, scripts_spelling}
 
 -- the bytes of a plan
 pub parts : (count : ℕ) (ls : List Level) (ss : List Script) (es : List ℕ) →

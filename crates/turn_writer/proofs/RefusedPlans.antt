@@ -14,14 +14,11 @@ use Rattle.turn_file.specs.Record.{bind}
 use Rattle.turn_file.specs.Spelling.{spell}
 use Rattle.turn_file.proofs.Refused.{bind_err}
 use Rattle.turn_file.proofs.Fields.{bind_ok}
-use Rattle.turn_writer.specs.Judgement.{past, past_field, past_levels, past_scripts, past_header, past_entries}
-use Rattle.turn_writer.specs.Judgement.{in_file_order, within_file, past_schedule}
-use Rattle.turn_writer.specs.Judgement.{file_length}
+use Rattle.turn_writer.specs.Judgement.{past, past_field, past_levels, past_scripts, past_header, past_entries, in_file_order, within_file, past_schedule, file_length}
 use Rattle.turn_writer.specs.Records.{plan_spelling, levels_spelling, scripts_spelling}
 use Rattle.turn_writer.specs.Shape.{Word, Shape, Known}
 use Rattle.turn_writer.proofs.AcceptedRecords.{product, levels_reach, workers_few, scripts_reach, entries_come}
-use Rattle.turn_writer.proofs.Standing.{standing, count_stops, behind_count, levels_stops, behind_levels, scripts_stops}
-use Rattle.turn_writer.proofs.Standing.{behind_scripts, schedule_stops}
+use Rattle.turn_writer.proofs.Standing.{standing, count_stops, behind_count, levels_stops, behind_levels, scripts_stops, behind_scripts, schedule_stops}
 use Rattle.turn_writer.proofs.Parts.{sizes}
 use Rattle.turn_writer.proofs.Stops.{Stopped}
 use Rattle.turn_writer.proofs.AcceptedPlans.{count_used, used_sizes}
@@ -92,15 +89,15 @@ schedule_fault workers es at g is =
 
 -- what holds of a plan whose header is not refused
 record Header (p : PlanNumbers) (at : ℕ) : Type 0 where
-  pub at_scripts : ℕ
-  pub counted : (length (used_levels p) ≡ p.count) × (1 ≤ p.count) × (p.count ≤ 4)
-  pub levels_fit : past_levels 0 1 (used_levels p) (past p.count 0) ≡ Ok at_scripts
-  pub scripts_fit : past_scripts (used_scripts p) at_scripts ≡ Ok at
-  pub workers : workers_of p ≡ product 1 (used_levels p)
-  pub all_scripts : length (used_scripts p) ≡ product 1 (used_levels p)
-  pub some_workers : 1 ≤ product 1 (used_levels p)
-  pub ends_levels : at_scripts ≡ past p.count 0 + length (levels_spelling 0 (used_levels p))
-  pub ends_scripts : at ≡ at_scripts + length (scripts_spelling 0 (used_scripts p))
+  at_scripts : ℕ
+  counted : (length (used_levels p) ≡ p.count) × (1 ≤ p.count) × (p.count ≤ 4)
+  levels_fit : past_levels 0 1 (used_levels p) (past p.count 0) ≡ Ok at_scripts
+  scripts_fit : past_scripts (used_scripts p) at_scripts ≡ Ok at
+  workers : workers_of p ≡ product 1 (used_levels p)
+  all_scripts : length (used_scripts p) ≡ product 1 (used_levels p)
+  some_workers : 1 ≤ product 1 (used_levels p)
+  ends_levels : at_scripts ≡ past p.count 0 + length (levels_spelling 0 (used_levels p))
+  ends_scripts : at ≡ at_scripts + length (scripts_spelling 0 (used_scripts p))
 
 header : (p : PlanNumbers) (at : ℕ) → Shape p → past_header p ≡ Ok at → Header p at
 header p at shape is =

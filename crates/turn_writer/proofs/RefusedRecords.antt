@@ -12,8 +12,7 @@ use Rattle.turn_file.specs.Order.{record_spelling}
 use Rattle.turn_file.specs.Reading.{schedule}
 use Rattle.turn_file.specs.Algorithm.{algorithm_number}
 use Rattle.turn_file.specs.Field.{field_kind, field_refuses, field_fault}
-use Rattle.turn_file.specs.Record.{bind, with_kind, value_at}
-use Rattle.turn_file.specs.Record.{limit_at, level_at, script_at, entries_end, schedule_at}
+use Rattle.turn_file.specs.Record.{bind, with_kind, value_at, limit_at, level_at, script_at, entries_end, schedule_at}
 use Rattle.turn_file.specs.Spelling.{spell, Stands}
 use Rattle.turn_file.proofs.Complete.{algorithm_small, bind_is}
 use Rattle.turn_file.proofs.Fields.{field_is, algorithm_is}

@@ -12,15 +12,14 @@ use Rattle.turn_file.specs.Field.{field_refuses, field_fault}
 use Rattle.turn_file.specs.Spelling.{spell_in, spell}
 use Rattle.turn_file.proofs.Fields.{bind_ok, fan_out_fits}
 use Rattle.turn_writer.proofs.Refusals.{kept}
-use Rattle.turn_writer.specs.Judgement.{past, past_field, past_limit, past_level, past_levels}
-use Rattle.turn_writer.specs.Judgement.{past_script, past_scripts, past_header}
+use Rattle.turn_writer.specs.Judgement.{past, past_field, past_limit, past_level, past_levels, past_script, past_scripts, past_header}
 
 groups_few : (left v : ℕ) → length (spell_in left v) ≤ left
 groups_few zero v = omega arith
 groups_few (suc left) v = grind (arith, nat_tests, groups_few left (v / 128))
 
 -- a number takes at most five bytes
-pub spell_few : (v : ℕ) → length (spell v) ≤ 5
+spell_few : (v : ℕ) → length (spell v) ≤ 5
 spell_few v = groups_few 5 v
 
 -- a number that was not refused
@@ -33,7 +32,7 @@ field_fits field n at next e =
 pub field_near : (field : Field) (n at next : ℕ) → past_field field n at ≡ Ok next → next ≤ at + 5
 field_near field n at next is = omega (arith, (field_fits field n at next is).1, spell_few n)
 
-pub limit_near : (rank n at next : ℕ) → past_limit rank n at ≡ Ok next → next ≤ at + 5
+limit_near : (rank n at next : ℕ) → past_limit rank n at ≡ Ok next → next ≤ at + 5
 limit_near rank n at next e =
     elim (eqb_tells rank 0) [
       | inl t ↦ let is = simp t.0 at e in let same : at ≡ next = cc in omega arith
@@ -71,7 +70,7 @@ levels_near rank parties (l ∷ ls) at next is =
     let one = level_near rank parties l at b.0 b.1 in
     omega (arith, one.0, levels_near (rank + 1) (parties * l.fan_out) ls b.0 next b.2)
 
-pub scripts_near : (ss : List Script) (at next : ℕ) → past_scripts ss at ≡ Ok next → next ≤ at + 15 * length ss
+scripts_near : (ss : List Script) (at next : ℕ) → past_scripts ss at ≡ Ok next → next ≤ at + 15 * length ss
 scripts_near [] at next is = let same : at ≡ next = cc in omega arith
 scripts_near (s ∷ ss) at next is =
     let b = bind_ok (past_script s at) _ next is in

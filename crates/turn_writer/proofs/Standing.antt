@@ -12,8 +12,7 @@ use Rattle.turn_file.specs.Spelling.{spell, Stands}
 use Rattle.turn_file.proofs.Orders.{stands_whole}
 use Rattle.turn_file.proofs.Spelled.{stands_split}
 use Rattle.turn_writer.specs.Judgement.{past, past_field, past_levels, past_scripts, past_entries}
-use Rattle.turn_writer.specs.Records.{records_from, levels_spelling, scripts_spelling}
-use Rattle.turn_writer.specs.Records.{level_records, script_records}
+use Rattle.turn_writer.specs.Records.{records_from, levels_spelling, scripts_spelling, level_records, script_records}
 use Rattle.turn_writer.specs.Shape.{Word, LevelWords, ScriptWords}
 use Rattle.turn_writer.proofs.AcceptedRecords.{product, levels_reach, levels_come, scripts_reach, scripts_come}
 use Rattle.turn_writer.proofs.Parts.{parts}

@@ -14,8 +14,7 @@ use Rattle.turn_file.specs.Spelling.{Stands}
 use Rattle.turn_file.proofs.Refused.{bind_err}
 use Rattle.turn_file.proofs.Spelled.{stands_none, stands_both, stands_split}
 use Rattle.turn_writer.specs.Judgement.{past_level, past_levels, past_script, past_scripts}
-use Rattle.turn_writer.specs.Records.{used_level, level_spelling, script_spelling}
-use Rattle.turn_writer.specs.Records.{levels_spelling, scripts_spelling}
+use Rattle.turn_writer.specs.Records.{used_level, level_spelling, script_spelling, levels_spelling, scripts_spelling}
 use Rattle.turn_writer.specs.Shape.{LevelWords, ScriptWords}
 use Rattle.turn_writer.proofs.AcceptedRecords.{in_order_both, level_comes, script_fits}
 use Rattle.turn_writer.proofs.RefusedRecords.{stop, level_refused, script_refused}

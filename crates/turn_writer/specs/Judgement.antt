@@ -67,7 +67,7 @@ abbrev pub in_file_order : Result ℕ RecordFault → (ℕ → Result ℕ FileFa
 in_file_order (Ok at) next = next at
 in_file_order (Err f) next = Err (in_file f)
 
--- a file is at most so long
+-- a length that a file may have
 abbrev pub within_file : ℕ → Result ℕ FileFault
 within_file n = cond (nat_lt longest_file n) (Err TooLong) (Ok n)
 

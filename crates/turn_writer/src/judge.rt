@@ -98,7 +98,7 @@ fn past_entries(at: usize, workers: u32, entries: &[u8]) -> Result<usize, Record
     entries.iter().try_fold(at, |next, entry| past_field(next, field, u32::from(*entry)))
 }
 
-// A file is at most so long.
+// A length that a file may have.
 fn within_file(length: usize) -> Result<usize, FileFault>
     ensures { result ≡ within_file length }
 {

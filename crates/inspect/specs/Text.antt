@@ -1,15 +1,10 @@
 -- The text of a plan, line by line.
 use Rattle.std.specs.Prelude.{ℕ, zero, suc, ◌+◌, cond, List, [], ◌∷◌, ◌++◌, length, take, drop, codes, decimal, ◌==◌}
 use Rattle.std.specs.List.{flat_map}
-use Rattle.turn_file.specs.declared.plan.Algorithm.{Algorithm}
-use Rattle.turn_file.specs.declared.plan.Algorithm.TheVariants.{Ticket, Mcs}
 use Rattle.turn_file.specs.declared.plan.Level.{Level}
 use Rattle.turn_file.specs.declared.plan.Script.{Script}
+use Rattle.turn_file.specs.Algorithm.{algorithm_text}
 use Rattle.turn_file.specs.Plan.{PlanNumbers, lanes_below, used_levels, workers_of, used_scripts}
-
-abbrev pub algorithm_text : Algorithm → List ℕ
-algorithm_text Ticket = codes "ticket"
-algorithm_text Mcs = codes "mcs"
 
 abbrev pub script_text : ℕ → Script → List ℕ
 script_text worker s =

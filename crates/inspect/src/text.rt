@@ -1,23 +1,14 @@
 // A plan as text: a line for each record, and what follows from other numbers in comments.
 ghost use Rattle.std.specs.Fmt.{WritesOnOk};
-ghost use Rattle.std.specs.Prelude.{◌≡◌, Some};
-ghost use Rattle.inspect.specs.Text.{algorithm_text, level_text, script_text, schedule_text};
+ghost use Rattle.std.specs.Prelude.{Some};
+ghost use Rattle.inspect.specs.Text.{level_text, script_text, schedule_text};
 ghost use Rattle.inspect.specs.Text.{level_lines, script_lines, schedule_lines, plan_text};
 ghost use Rattle.turn_file.specs.Plan.{plan_numbers};
 
 use std::fmt;
-use turn_file::plan::{Algorithm, Level, Plan, Script};
+use turn_file::plan::{Level, Plan, Script};
 
 const ENTRIES_PER_LINE: usize = 32;
-
-fn algorithm_name(algorithm: Algorithm) -> &'static str
-    ensures { result.now ≡ algorithm_text algorithm }
-{
-    match algorithm {
-        Algorithm::Ticket => "ticket",
-        Algorithm::Mcs => "mcs",
-    }
-}
 
 // A level by its number, which is 1 at the top. The top level has no handoff limit.
 #[derive(Drop)]
@@ -37,7 +28,6 @@ impl fmt::Display for LevelLine {
             fan_out,
             handoff_limit,
         } = self.level;
-        let algorithm = algorithm_name(algorithm);
         if number == 1 {
             write!(
                 f,

@@ -1,5 +1,5 @@
 // The words of a line, parted by blanks. A comment is no part of its line.
-ghost use Rattle.std.specs.Prelude.{◌≡◌, ◌++◌, length};
+ghost use Rattle.std.specs.Prelude.{◌≡◌, ◌++◌, length, ◌↔◌, IsTrue, IsOk, IfErr};
 ghost use Rattle.std.specs.Iterator.{at_most};
 
 use crate::number::parse_number;
@@ -37,10 +37,23 @@ impl<'a> Words<'a> {
     }
 
     // The line is not readable, since it lacks this.
-    pub(crate) fn lacks(&self, expected: Expected) -> Unreadable {
+    pub(crate) fn lacks(&self, expected: Expected) -> Unreadable
+        ensures { (result.line ≡ self.now.line) × (result.expected ≡ expected) }
+    {
         Unreadable {
             line: self.line,
             expected,
+        }
+    }
+
+    fn demand(&self, met: bool, expected: Expected) -> Result<(), Unreadable>
+        ensures met { IsOk result ↔ IsTrue met }
+        ensures lacks { IfErr result (λ e. (e.line ≡ self.now.line) × (e.expected ≡ expected)) }
+    {
+        if met {
+            Ok(())
+        } else {
+            Err(self.lacks(expected))
         }
     }
 
@@ -51,11 +64,8 @@ impl<'a> Words<'a> {
     }
 
     pub(crate) fn expect_word(&mut self, word: &'static str) -> Result<(), Unreadable> {
-        if self.next() == Some(word.as_bytes()) {
-            Ok(())
-        } else {
-            Err(self.lacks(Expected::Word(word)))
-        }
+        let met = self.next() == Some(word.as_bytes());
+        self.demand(met, Expected::Word(word))
     }
 
     // A word and the number behind it, as `fan-out 2`.
@@ -70,21 +80,13 @@ impl<'a> Words<'a> {
         name: &'static str,
         number: u32,
     ) -> Result<(), Unreadable> {
-        if self.next() == Some(name.as_bytes())
-            && self.next().and_then(parse_number) == Some(number)
-        {
-            Ok(())
-        } else {
-            Err(self.lacks(Expected::Record { name, number }))
-        }
+        let met = self.next() == Some(name.as_bytes())
+            && self.next().and_then(parse_number) == Some(number);
+        self.demand(met, Expected::Record { name, number })
     }
 
     pub(crate) fn expect_end(&self) -> Result<(), Unreadable> {
-        if self.is_empty() {
-            Ok(())
-        } else {
-            Err(self.lacks(Expected::EndOfLine))
-        }
+        self.demand(self.is_empty(), Expected::EndOfLine)
     }
 }
 

@@ -1,4 +1,6 @@
 // The plan that a text describes.
+ghost use Rattle.std.specs.Prelude.{◌≡◌};
+
 use crate::failure::Failure;
 use crate::lines::Lines;
 use crate::records::{Numbered, read_entries};
@@ -24,7 +26,12 @@ impl Composition {
         Ok(composition)
     }
 
-    pub(crate) fn plan(&self) -> Plan<'_> {
+    pub(crate) fn plan(&self) -> Plan<'_>
+        ensures tables { let tables = self.now.tables in
+            (result.level_count ≡ tables.level_count) × (result.levels ≡ tables.levels)
+            × (result.scripts ≡ tables.scripts) }
+        ensures entries { result.schedule.now ≡ self.now.entries.items }
+    {
         Plan {
             schedule: self.entries.as_slice(),
             ..self.tables

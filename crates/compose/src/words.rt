@@ -1,6 +1,8 @@
 // The words of a line, parted by blanks. A comment is no part of its line.
-ghost use Rattle.std.specs.Prelude.{◌≡◌, ◌++◌, length, ◌↔◌, IsTrue, IsOk, IfErr};
+ghost use Rattle.std.specs.Prelude.{◌≡◌, ◌<◌, ◌++◌, true, false, length, slice_index, ◌↔◌, All, IsTrue, IsOk, IfErr};
+ghost use Rattle.std.specs.Fn.{FnReturnsAt};
 ghost use Rattle.std.specs.Iterator.{at_most};
+ghost use Rattle.compose.specs.Blank.{IsBlank};
 
 use crate::number::parse_number;
 use crate::unreadable::{Expected, Unreadable};
@@ -13,14 +15,19 @@ pub(crate) struct Words<'a> {
 }
 
 // A line keeps the byte that ends it, which is a blank like the others.
-fn is_blank(byte: &u8) -> bool {
+fn is_blank(byte: &u8) -> bool
+    ensures { IsTrue result ↔ IsBlank byte.now }
+{
     matches!(byte, b' ' | b'\t' | b'\r' | b'\n')
 }
 
 // The bytes before the first that passes, and the others.
-fn split_before<P: FnMut(&u8) -> bool>(text: &[u8], passes: P) -> (&[u8], &[u8])
+fn split_before<P: Fn(&u8) -> bool>(text: &[u8], passes: P) -> (&[u8], &[u8])
     requires { P.IsAlwaysCallable passes }
-    ensures { text.now ≡ result.0.now ++ result.1.now }
+    ensures whole { text.now ≡ result.0.now ++ result.1.now }
+    ensures before { All (λ byte. FnReturnsAt P.Fn passes byte false) result.0.now }
+    ensures from { let others = result.1.now in
+        0 < length others → FnReturnsAt P.Fn passes (slice_index others 0) true }
 {
     let place = text.iter().position(passes).unwrap_or(text.len());
     text.split_at(place)
@@ -32,7 +39,9 @@ impl<'a> Words<'a> {
         Words { line, rest }
     }
 
-    pub(crate) fn is_empty(&self) -> bool {
+    pub(crate) fn is_empty(&self) -> bool
+        ensures { IsTrue result ↔ All IsBlank self.now.rest.now }
+    {
         self.rest.iter().all(is_blank)
     }
 
@@ -85,7 +94,9 @@ impl<'a> Words<'a> {
         self.demand(met, Expected::Record { name, number })
     }
 
-    pub(crate) fn expect_end(&self) -> Result<(), Unreadable> {
+    pub(crate) fn expect_end(&self) -> Result<(), Unreadable>
+        ensures { IsOk result ↔ All IsBlank self.now.rest.now }
+    {
         self.demand(self.is_empty(), Expected::EndOfLine)
     }
 }

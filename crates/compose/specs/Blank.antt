@@ -1,0 +1,5 @@
+-- The bytes that part words: a blank, a tab, and the ends of lines.
+use Rattle.std.specs.Prelude.{ℕ, ◌≡◌, ◌⊎◌}
+
+abbrev pub IsBlank : ℕ → Type 0
+IsBlank byte = (byte ≡ 32) ⊎ ((byte ≡ 9) ⊎ ((byte ≡ 13) ⊎ (byte ≡ 10)))

@@ -7,7 +7,7 @@ use std::alloc::{AllocError, AllocFailed};
 use std::{fmt, io};
 use turn_file::fault::FileFault;
 
-#[derive(Drop)]
+#[derive(Debug, Drop)]
 pub(crate) enum Failure {
     Unreadable(Unreadable),
     Refused(FileFault),

@@ -19,9 +19,7 @@ schedule 255 256 4294967295";
 
 #[test]
 fn edited(rt: HostRuntime) -> Result<(), Fail> {
-    let Ok(composition) = Composition::read(rt.alloc(), EDITED) else {
-        return Err(Fail::new("the text is not read"));
-    };
+    let composition = Composition::read(rt.alloc(), EDITED)?;
     let plan = composition.plan();
     assert_eq!(rt; plan.level_count, 2);
     let top = plan.levels[0];
@@ -60,14 +58,10 @@ fn edited(rt: HostRuntime) -> Result<(), Fail> {
 // The rest of a text is not read where the levels or the workers are too many or none.
 #[test]
 fn impossible(rt: HostRuntime) -> Result<(), Fail> {
-    let Ok(levels) = Composition::read(rt.alloc(), b"levels 5 ..") else {
-        return Err(Fail::new("the text of five levels is not read"));
-    };
+    let levels = Composition::read(rt.alloc(), b"levels 5 ..")?;
     assert_eq!(rt; levels.plan().level_count, 5);
     let text = b"levels 1\nlevel 1 mcs fan-out 65\n..";
-    let Ok(workers) = Composition::read(rt.alloc(), text) else {
-        return Err(Fail::new("the text of 65 workers is not read"));
-    };
+    let workers = Composition::read(rt.alloc(), text)?;
     assert_eq!(rt; workers.plan().workers(), 65);
     Ok(())
 }

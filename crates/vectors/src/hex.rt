@@ -7,6 +7,7 @@ use crate::repeated::split_times;
 use anyhow::{Context, bail};
 use std::alloc::Global;
 
+// That a digit is small follows from the other clauses; with it a byte of two digits is seen to fit.
 fn digit(c: u8) -> anyhow::Result<u8>
     ensures found { IsOk result ↔ (digit_value c < 16) }
     ensures value { IfOk result (λ d. d ≡ digit_value c) }
@@ -17,10 +18,10 @@ fn digit(c: u8) -> anyhow::Result<u8>
 }
 
 fn byte_of(pair: &[u8]) -> anyhow::Result<u8> {
-    let [high, low] = pair else {
+    let [high, low] = *pair else {
         bail!("a byte of one digit");
     };
-    Ok(digit(*high)? * 16 + digit(*low)?)
+    Ok(digit(high)? * 16 + digit(low)?)
 }
 
 // Adds the bytes of a word, the last one as often as the number after the star says.
@@ -34,7 +35,7 @@ fn push_word(file: &mut Vec<u8>, word: &str) -> anyhow::Result<()> {
     Ok(())
 }
 
-pub fn parse_line(heap: Global, line: &str) -> anyhow::Result<Vec<u8>> {
+pub(crate) fn parse_bytes(heap: Global, line: &str) -> anyhow::Result<Vec<u8>> {
     let mut file = Vec::new(heap);
     for word in line.split_whitespace() {
         push_word(&mut file, word)?;

@@ -8,20 +8,20 @@ mod checksum;
 mod hex;
 mod plan_line;
 mod repeated;
+mod summary;
 #[cfg(test)]
 mod tests;
-mod verdict;
 mod writing;
 
-use hex::parse_line;
+use hex::parse_bytes;
 use plan_line::PlanLine;
 use std::alloc::Global;
 use std::io::{BufRead, BufReader, BufWriter, Write};
+use summary::Summary;
 use turn_file::fault::FileFault;
 use turn_file::plan::Plan;
 use turn_file::plan_reader::read_plan;
-use verdict::Summary;
-use writing::{is_written_back, write_line};
+use writing::{Outcome, is_written_back};
 
 fn read(file: &[u8]) -> Result<Plan<'_>, FileFault> {
     let mut plan = Plan::blank();
@@ -31,9 +31,9 @@ fn read(file: &[u8]) -> Result<Plan<'_>, FileFault> {
 
 // What the file holds, or why it is refused, or that the writer makes another file of it.
 fn answer_file(out: &mut impl Write, heap: Global, line: &str) -> anyhow::Result<()> {
-    let file = parse_line(heap, line)?;
-    match read(file.as_slice()) {
-        Ok(plan) if is_written_back(heap, &plan, file.as_slice())? => {
+    let file = parse_bytes(heap, line)?;
+    match read(&file) {
+        Ok(plan) if is_written_back(heap, &plan, &file)? => {
             writeln!(out, "{}", Summary::of(&plan))?
         }
         Ok(_) => writeln!(out, "changed")?,
@@ -45,7 +45,7 @@ fn answer_file(out: &mut impl Write, heap: Global, line: &str) -> anyhow::Result
 // How the plan is written, or why it is refused.
 fn answer_plan(out: &mut impl Write, heap: Global, words: &str) -> anyhow::Result<()> {
     let line = PlanLine::parse(heap, words)?;
-    writeln!(out, "{}", write_line(heap, &line)?)?;
+    writeln!(out, "{}", Outcome::of(heap, &line)?)?;
     Ok(())
 }
 

@@ -7,17 +7,17 @@ use anyhow::{Context, bail, ensure};
 use std::alloc::Global;
 use turn_file::plan::{Algorithm, Level, Plan, Script};
 
-// The plan's levels and scripts, the entries of its schedule, and the length of the output.
+// The length of the output, the plan's levels and scripts, and the entries of its schedule.
 #[derive(Drop)]
-pub struct PlanLine {
-    pub space: usize,
+pub(crate) struct PlanLine {
+    pub(crate) space: usize,
     tables: Plan<'static>,
     entries: Vec<u8>,
 }
 
 impl PlanLine {
     // Reads what follows the word `plan`.
-    pub fn parse(heap: Global, line: &str) -> anyhow::Result<PlanLine> {
+    pub(crate) fn parse(heap: Global, line: &str) -> anyhow::Result<PlanLine> {
         let (sizes, rest) = line.split_once("levels").context("no levels")?;
         let (levels, rest) = rest.split_once("scripts").context("no scripts")?;
         let (scripts, schedule) = rest.split_once("schedule").context("no schedule")?;
@@ -27,14 +27,9 @@ impl PlanLine {
             ..Plan::blank()
         };
         let levels = numbers(heap, levels)?;
-        enter(&mut tables.levels, levels.as_slice(), level_of, "levels")?;
+        enter(&mut tables.levels, &levels, level_of, "levels")?;
         let scripts = numbers(heap, scripts)?;
-        enter(
-            &mut tables.scripts,
-            scripts.as_slice(),
-            script_of,
-            "scripts",
-        )?;
+        enter(&mut tables.scripts, &scripts, script_of, "scripts")?;
         let entries = parse_entries(heap, schedule)?;
         Ok(PlanLine {
             space,
@@ -43,9 +38,9 @@ impl PlanLine {
         })
     }
 
-    pub fn plan(&self) -> Plan<'_> {
+    pub(crate) fn plan(&self) -> Plan<'_> {
         Plan {
-            schedule: self.entries.as_slice(),
+            schedule: &self.entries,
             ..self.tables
         }
     }
@@ -60,16 +55,17 @@ fn numbers(heap: Global, text: &str) -> anyhow::Result<Vec<u32>> {
 // The space and the count of levels.
 fn parse_sizes(heap: Global, text: &str) -> anyhow::Result<(usize, u32)> {
     let sizes = numbers(heap, text)?;
-    let [space, level_count] = sizes.as_slice() else {
+    let [space, level_count] = *sizes.as_slice() else {
         bail!("a plan begins with its space and its count of levels");
     };
-    Ok((*space as usize, *level_count))
+    Ok((space as usize, level_count))
 }
 
 fn level_of(numbers: &[u32]) -> anyhow::Result<Level> {
     let [algorithm, fan_out, handoff_limit] = *numbers else {
         bail!("a level is not three numbers");
     };
+    // By `?` alone another text would be printed, that of `UnknownAlgorithm`.
     let algorithm = Algorithm::try_from(algorithm)
         .ok()
         .context("no such algorithm")?;
@@ -91,13 +87,13 @@ fn script_of(numbers: &[u32]) -> anyhow::Result<Script> {
 fn enter<T: Drop, F: Fn(&[u32]) -> anyhow::Result<T>>(
     table: &mut [T],
     numbers: &[u32],
-    entry_of: F,
+    item_of: F,
     names: &str,
 ) -> anyhow::Result<()>
-    requires { F.IsAlwaysCallable entry_of }
+    requires { F.IsAlwaysCallable item_of }
 {
     for (place, three) in table.iter_mut().zip(numbers.chunks(3)) {
-        *place = entry_of(three)?;
+        *place = item_of(three)?;
     }
     ensure!(numbers.chunks(3).len() <= table.len(), "too many {names}");
     Ok(())

@@ -37,12 +37,7 @@ fn numbers(rt: HostRuntime) {
 #[test]
 fn sixty_four_workers(rt: HostRuntime) {
     let mut file = [0; 199];
-    file[0] = 2;
-    file[1] = 1;
-    file[2] = 8;
-    file[3] = 1;
-    file[4] = 8;
-    file[5] = 1;
+    file[..6].copy_from_slice(&[2, 1, 8, 1, 8, 1]);
     let mut plan = Plan::blank();
     assert_eq!(rt; read_plan(&file, &mut plan), Ok(()));
     let second = plan.levels[1];
@@ -105,10 +100,10 @@ fn handoff(rt: HostRuntime) -> Result<(), Fail> {
 
 fn place(record: &Record<'_>) -> usize {
     match record {
-        Record::Levels { part, .. } => part.place,
-        Record::Level { part, .. } => part.place,
-        Record::Script { part, .. } => part.place,
-        Record::Schedule { part } => part.place,
+        Record::Levels { part, .. }
+        | Record::Level { part, .. }
+        | Record::Script { part, .. }
+        | Record::Schedule { part } => part.place,
     }
 }
 

@@ -10,9 +10,18 @@ use turn_writer::plan_writer::write_plan;
 // The writer's answer is the length of the file, or why the plan is refused.
 // The checksum is that of the whole output, so that it shows a byte written at a refusal, or behind the file.
 #[derive(Drop)]
-pub struct Outcome {
+pub(crate) struct Outcome {
     answer: Result<usize, FileFault>,
     checksum: u64,
+}
+
+impl Outcome {
+    pub(crate) fn of(heap: Global, line: &PlanLine) -> Result<Outcome, AllocError> {
+        let mut out = blank_output(heap, line.space)?;
+        let answer = write_plan(&line.plan(), &mut out);
+        let checksum = mix_all(0, &out);
+        Ok(Outcome { answer, checksum })
+    }
 }
 
 impl fmt::Display for Outcome {
@@ -30,16 +39,13 @@ fn blank_output(heap: Global, length: usize) -> Result<Vec<u8>, AllocError> {
     vec![in heap; 0xaa; length]
 }
 
-pub fn write_line(heap: Global, line: &PlanLine) -> Result<Outcome, AllocError> {
-    let mut out = blank_output(heap, line.space)?;
-    let answer = write_plan(&line.plan(), out.as_mut_slice());
-    let checksum = mix_all(0, out.as_slice());
-    Ok(Outcome { answer, checksum })
-}
-
 // Whether the writer makes the same file again of the plan that was read of it.
-pub fn is_written_back(heap: Global, plan: &Plan<'_>, file: &[u8]) -> Result<bool, AllocError> {
+pub(crate) fn is_written_back(
+    heap: Global,
+    plan: &Plan<'_>,
+    file: &[u8],
+) -> Result<bool, AllocError> {
     let mut out = blank_output(heap, file.len())?;
-    let answer = write_plan(plan, out.as_mut_slice());
+    let answer = write_plan(plan, &mut out);
     Ok(answer == Ok(file.len()) && out.as_slice() == file)
 }

@@ -4,7 +4,7 @@ use std::fmt;
 use turn_file::plan::{Level, Plan, Script};
 
 #[derive(Drop)]
-pub struct Summary {
+pub(crate) struct Summary {
     levels: u32,
     workers: u32,
     entries: usize,
@@ -12,7 +12,7 @@ pub struct Summary {
 }
 
 impl Summary {
-    pub fn of(plan: &Plan<'_>) -> Summary {
+    pub(crate) fn of(plan: &Plan<'_>) -> Summary {
         Summary {
             levels: plan.level_count,
             workers: plan.workers(),

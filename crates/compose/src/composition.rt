@@ -33,7 +33,7 @@ impl Composition {
         ensures entries { result.schedule.now ≡ self.now.entries.items }
     {
         Plan {
-            schedule: self.entries.as_slice(),
+            schedule: &self.entries,
             ..self.tables
         }
     }

@@ -23,7 +23,7 @@ fn main(rt: HostRuntime) -> io::Result<()> {
     let file = read_file(&rt)?;
     let mut out = BufWriter::new(rt.alloc(), rt.stdout())?;
     let mut plan = Plan::blank();
-    match read_plan(file.as_slice(), &mut plan) {
+    match read_plan(&file, &mut plan) {
         Ok(()) => write!(out, "{}", PlanText(plan))?,
         Err(fault) => writeln!(out, "{fault}")?,
     }

@@ -124,7 +124,7 @@ fn write_plan<W: fmt::Write>(f: &mut fmt::Formatter<W>, plan: &Plan<'_>) -> fmt:
 
 // The whole text, each line ended.
 #[derive(Drop)]
-pub struct PlanText<'a>(pub Plan<'a>);
+pub(crate) struct PlanText<'a>(pub(crate) Plan<'a>);
 
 impl fmt::Display for PlanText<'_> {
     ghost output = { λ t. Some (plan_text (plan_numbers t.0)) };

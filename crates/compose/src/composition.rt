@@ -1,4 +1,4 @@
-// The plan that a text describes.
+//! The plan that a text describes.
 ghost use Rattle.std.specs.Prelude.{◌≡◌};
 
 use crate::failure::Failure;
@@ -9,7 +9,7 @@ use std::alloc::Global;
 use turn_file::limits::{MOST_LEVELS, MOST_WORKERS};
 use turn_file::plan::Plan;
 
-// The plan's levels and scripts, and the entries of its schedule.
+/// The plan's levels and scripts, and the entries of its schedule.
 #[derive(Drop)]
 pub(crate) struct Composition {
     tables: Plan<'static>,

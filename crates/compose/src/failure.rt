@@ -1,4 +1,4 @@
-// Why no turn file is written.
+//! Why no turn file is written.
 ghost use Rattle.std.specs.Prelude.{◌≡◌};
 ghost use Rattle.compose.specs.Failing.{unreadable, refused, system, IsOutOfMemory, failure_text};
 

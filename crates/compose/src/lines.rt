@@ -1,10 +1,10 @@
-// The lines of a text that have words.
+//! The lines of a text that have words.
 ghost use Rattle.std.specs.Prelude.{length};
 ghost use Rattle.std.specs.Iterator.{at_most};
 
 use crate::words::Words;
 
-// What is left of a text, and the number of the line that it begins with.
+/// What is left of a text, and the number of the line that it begins with.
 #[derive(Drop)]
 pub(crate) struct Lines<'a> {
     rest: &'a [u8],
@@ -19,7 +19,7 @@ impl<'a> Lines<'a> {
         }
     }
 
-    // The next line that has a word, or an empty line behind the last.
+    /// The next line that has a word, or an empty line behind the last.
     pub(crate) fn next_or_empty(&mut self) -> Words<'a> {
         self.next().unwrap_or(Words::new(self.number, &[]))
     }

@@ -1,4 +1,4 @@
-// Reads the text of a turn file on standard input, and writes the file on standard output.
+//! Reads the text of a turn file on standard input, and writes the file on standard output.
 #![tactic(auto)]
 
 mod composition;

@@ -1,4 +1,4 @@
-// The lines of a text, each a record of the turn file or a part of its schedule.
+//! The lines of a text, each a record of the turn file or a part of its schedule.
 ghost use Rattle.std.specs.Prelude.{◌≡◌, min};
 
 use crate::failure::Failure;
@@ -15,7 +15,7 @@ fn read_algorithm(line: &mut Words<'_>) -> Result<Algorithm, Unreadable> {
     }
 }
 
-// A record that has a line with a number of its own.
+/// A record that has a line with a number of its own.
 pub(crate) trait Numbered: Sized {
     fn read(line: Words<'_>, number: u32) -> Result<Self, Unreadable>;
 }
@@ -59,7 +59,7 @@ fn entry_of(number: u32) -> u8
     number.min(255) as u8
 }
 
-// Adds the entries of a line of the schedule.
+/// Adds the entries of a line of the schedule.
 pub(crate) fn read_entries(mut line: Words<'_>, entries: &mut Vec<u8>) -> Result<(), Failure> {
     line.expect_word("schedule")?;
     let lacks_number = line.lacks(Expected::Number);

@@ -1,4 +1,4 @@
-// What is read of a few texts.
+//! What is read of a few texts.
 use crate::composition::Composition;
 use std::alloc::Global;
 use std::test::Fail;

@@ -1,10 +1,10 @@
-// Why a text cannot be read.
+//! Why a text cannot be read.
 ghost use Rattle.std.specs.Prelude.{Some};
 ghost use Rattle.compose.specs.Failing.{expected_text, unreadable_text};
 
 use std::fmt;
 
-// What the grammar of the text wants at some place.
+/// What the grammar of the text wants at some place.
 #[derive(Clone, Copy, PartialEq, Eq, Debug)]
 pub(crate) enum Expected {
     Word(&'static str),
@@ -14,7 +14,7 @@ pub(crate) enum Expected {
     EndOfLine,
 }
 
-// The line that is not as it should be, by its number, and what it should have.
+/// The line that is not as it should be, by its number, and what it should have.
 #[derive(Clone, Copy, PartialEq, Eq, Debug)]
 pub(crate) struct Unreadable {
     pub(crate) line: usize,

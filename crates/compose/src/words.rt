@@ -1,4 +1,4 @@
-// The words of a line, parted by blanks. A comment is no part of its line.
+//! The words of a line, parted by blanks. A comment is no part of its line.
 ghost use Rattle.std.specs.Prelude.{◌≡◌, ◌<◌, ◌++◌, true, false, length, slice_index, ◌↔◌, All, IsTrue, IsOk, IfErr};
 ghost use Rattle.std.specs.Fn.{FnReturnsAt};
 ghost use Rattle.std.specs.Iterator.{at_most};
@@ -7,7 +7,7 @@ ghost use Rattle.compose.specs.Blank.{IsBlank};
 use crate::number::parse_number;
 use crate::unreadable::{Expected, Unreadable};
 
-// What is left of a line, which has this number in the text.
+/// What is left of a line, which has this number in the text.
 #[derive(Drop)]
 pub(crate) struct Words<'a> {
     line: usize,
@@ -45,7 +45,7 @@ impl<'a> Words<'a> {
         self.rest.iter().all(is_blank)
     }
 
-    // The line is not readable, since it lacks this.
+    /// The line is not readable, since it lacks this.
     pub(crate) fn lacks(&self, expected: Expected) -> Unreadable
         ensures { (result.line ≡ self.now.line) × (result.expected ≡ expected) }
     {
@@ -77,13 +77,13 @@ impl<'a> Words<'a> {
         self.demand(met, Expected::Word(word))
     }
 
-    // A word and the number behind it, as `fan-out 2`.
+    /// A word and the number behind it, as `fan-out 2`.
     pub(crate) fn expect_setting(&mut self, name: &'static str) -> Result<u32, Unreadable> {
         self.expect_word(name)?;
         self.expect_number()
     }
 
-    // What one of several records begins with, as `level 1`.
+    /// What one of several records begins with, as `level 1`.
     pub(crate) fn expect_record(
         &mut self,
         name: &'static str,

@@ -1,4 +1,4 @@
-// Reads a turn file on standard input, and prints it as text, or why it is refused.
+//! Reads a turn file on standard input, and prints it as text, or why it is refused.
 #![tactic(auto)]
 
 mod text;

@@ -1,4 +1,4 @@
-// A plan as text: a line for each record, and what follows from other numbers in comments.
+//! A plan as text: a line for each record, and what follows from other numbers in comments.
 ghost use Rattle.std.specs.Fmt.{WritesOnOk};
 ghost use Rattle.std.specs.Prelude.{Some};
 ghost use Rattle.inspect.specs.Text.{level_text, script_text, schedule_text};
@@ -122,7 +122,7 @@ fn write_plan<W: fmt::Write>(f: &mut fmt::Formatter<W>, plan: &Plan<'_>) -> fmt:
     write_schedule(f, plan.schedule)
 }
 
-// The whole text, each line ended.
+/// The whole text, each line ended.
 #[derive(Drop)]
 pub(crate) struct PlanText<'a>(pub(crate) Plan<'a>);
 

@@ -1,5 +1,5 @@
-// Why a turn file is refused: a fault of a number, of the record that holds the number,
-// or of the file that holds the record.
+//! Why a turn file is refused: a fault of a number, of the record that holds the number,
+//! or of the file that holds the record.
 ghost use Rattle.std.specs.Prelude.{◌≡◌, Some};
 ghost use Rattle.turn_file.specs.Fault.{in_record, in_file, fault_numbers, fault_line};
 ghost use Rattle.turn_file.specs.Fault.{number_cause, record_cause, cause_number};
@@ -11,7 +11,7 @@ use crate::limits::LONGEST_FILE;
 use std::error::Error;
 use std::fmt;
 
-// The kinds of record that a turn file is made of.
+/// The kinds of record that a turn file is made of.
 #[derive(Clone, Copy, PartialEq, Eq, Debug)]
 pub enum RecordKind {
     Levels,
@@ -28,7 +28,7 @@ enum Layer {
     File,
 }
 
-// A number that is not complete, not shortest, or above 32 bits. The place is that of its first byte.
+/// A number that is not complete, not shortest, or above 32 bits. The place is that of its first byte.
 #[derive(Clone, Copy, PartialEq, Eq, Debug)]
 pub enum NumberFault {
     Ends { place: usize },
@@ -36,7 +36,7 @@ pub enum NumberFault {
     TooLarge { place: usize },
 }
 
-// A faulty number of a record, or a sound number whose value does not fit the record.
+/// A faulty number of a record, or a sound number whose value does not fit the record.
 #[derive(Clone, Copy, PartialEq, Eq, Debug)]
 pub enum RecordFault {
     Number {
@@ -63,7 +63,7 @@ pub enum RecordFault {
     },
 }
 
-// A faulty record, or a file or an output of the wrong length.
+/// A faulty record, or a file or an output of the wrong length.
 #[derive(Clone, Copy, PartialEq, Eq, Debug)]
 pub enum FileFault {
     Record { fault: RecordFault },
@@ -72,7 +72,7 @@ pub enum FileFault {
     OutputTooShort,
 }
 
-// A fault as it is printed.
+/// A fault as it is printed.
 #[derive(Clone, Copy, PartialEq, Eq, Debug)]
 pub struct FaultNumbers {
     pub cause: u8,
@@ -265,7 +265,7 @@ impl FileFault {
         }
     }
 
-    // The fault as it is printed.
+    /// The fault as it is printed.
     pub fn numbers(self) -> FaultNumbers
         ensures { result ≡ fault_numbers self }
     {

@@ -1,20 +1,20 @@
-// The numbers of records that only some values fit.
+//! The numbers of records that only some values fit.
 ghost use Rattle.std.specs.Prelude.{◌≡◌};
 ghost use Rattle.turn_file.specs.Field.{field_kind, field_refuses, field_fault, field_judgement};
 
 use crate::fault::{RecordFault, RecordKind};
 use crate::limits::{LARGEST_SETTING, MOST_LEVELS, MOST_WORKERS};
 
-// A number of a record, with what its values are judged by.
+/// A number of a record, with what its values are judged by.
 #[derive(Clone, Copy, PartialEq, Eq, Debug)]
 pub enum Field {
     LevelCount,
-    // The members of each lane, where the levels above have `parties` parties.
+    /// The members of each lane, where the levels above have `parties` parties.
     FanOut { parties: u32 },
     HandoffLimit,
-    // Turns, rest or hold.
+    /// Turns, rest or hold.
     ScriptNumber,
-    // An entry of the schedule, a worker.
+    /// An entry of the schedule, a worker.
     Entry { workers: u32 },
 }
 
@@ -56,7 +56,7 @@ impl Field {
         }
     }
 
-    // Whether a value fits, whose first byte is at `place`.
+    /// Whether a value fits, whose first byte is at `place`.
     pub fn judge(self, value: u32, place: usize) -> Result<(), RecordFault>
         ensures { result ≡ field_judgement self value place }
     {

@@ -1,4 +1,4 @@
-// Reads turn files: a stack of locks, each worker's script, and who ran at each step.
+//! Reads turn files: a stack of locks, each worker's script, and who ran at each step.
 #![tactic(auto)]
 
 pub mod fault;

@@ -1,4 +1,4 @@
-// Numbers: groups of seven bits, lowest first, the top bit set in all but the last.
+//! Numbers: groups of seven bits, lowest first, the top bit set in all but the last.
 ghost use Rattle.std.specs.Prelude.{◌≡◌, ◌^◌, drop};
 ghost use Rattle.turn_file.specs.Number.{group_of, number_at};
 ghost use Rattle.turn_file.specs.Spelling.{OneSpelling, Spelled};
@@ -34,7 +34,7 @@ fn bytes_from(file: &[u8], at: usize) -> &[u8]
     file.get(at..).unwrap_or(&[])
 }
 
-// The number whose first byte is at `at`, with the place after it.
+/// The number whose first byte is at `at`, with the place after it.
 pub fn read_number(file: &[u8], at: usize) -> Result<(u32, usize), NumberFault>
     ensures reads { result ≡ number_at file.now at }
     ensures spelled { Spelled (2 ^ 32) file.now at result }
@@ -54,7 +54,7 @@ pub fn read_number(file: &[u8], at: usize) -> Result<(u32, usize), NumberFault>
     Err(NumberFault::Ends { place: at })
 }
 
-// Every value up to 4,294,967,295 has exactly one accepted spelling, and what is accepted at a place is that spelling.
+/// Every value up to 4,294,967,295 has exactly one accepted spelling, and what is accepted at a place is that spelling.
 pub fn one_spelling_for_each_number()
     ensures { OneSpelling (2 ^ 32) }
 {}

@@ -1,4 +1,4 @@
-// What a turn file says: the stack of locks, each worker's script, and the order in which the workers ran.
+//! What a turn file says: the stack of locks, each worker's script, and the order in which the workers ran.
 ghost use Rattle.std.specs.Prelude.{◌≡◌, Some, take};
 ghost use Rattle.turn_file.specs.Algorithm.{algorithm_number, algorithm_from};
 ghost use Rattle.turn_file.specs.Algorithm.{algorithm_text, unknown_algorithm_text};
@@ -7,7 +7,7 @@ ghost use Rattle.turn_file.specs.Plan.{plan_numbers, blank_plan, lanes_below, us
 use std::error::Error;
 use std::fmt;
 
-// How the locks of a level work.
+/// How the locks of a level work.
 #[derive(Clone, Copy, PartialEq, Eq, Debug, Default)]
 pub enum Algorithm {
     #[default]
@@ -26,7 +26,7 @@ impl fmt::Display for Algorithm {
     }
 }
 
-// A number that stands for no algorithm.
+/// A number that stands for no algorithm.
 #[derive(Clone, Copy, PartialEq, Eq, Debug)]
 pub struct UnknownAlgorithm {
     pub number: u32,
@@ -67,9 +67,9 @@ impl TryFrom<u32> for Algorithm {
     }
 }
 
-// A level of the stack. Each party of the level above has a lane here, and each lane `fan_out` members.
-// After `handoff_limit` turns in a row a lane gives the upper lock back.
-// The top level has no limit, and 0 in its place.
+/// A level of the stack. Each party of the level above has a lane here, and each lane `fan_out` members.
+/// After `handoff_limit` turns in a row a lane gives the upper lock back.
+/// The top level has no limit, and 0 in its place.
 #[derive(Clone, Copy, PartialEq, Eq, Debug, Default)]
 pub struct Level {
     pub algorithm: Algorithm,
@@ -77,8 +77,8 @@ pub struct Level {
     pub handoff_limit: u32,
 }
 
-// What a worker does: so many turns, with so many plays of rest before each,
-// and so many of work while it holds the lock.
+/// What a worker does: so many turns, with so many plays of rest before each,
+/// and so many of work while it holds the lock.
 #[derive(Clone, Copy, PartialEq, Eq, Debug, Default)]
 pub struct Script {
     pub turns: u32,
@@ -86,9 +86,9 @@ pub struct Script {
     pub hold: u32,
 }
 
-// A whole turn file. Of the tables the first `level_count` levels are used, and a script for each worker;
-// the workers are as many as the product of the used levels' fan-outs.
-// The schedule has an entry, a worker, for each play.
+/// A whole turn file. Of the tables the first `level_count` levels are used, and a script for each worker;
+/// the workers are as many as the product of the used levels' fan-outs.
+/// The schedule has an entry, a worker, for each play.
 #[derive(Clone, Copy, Debug)]
 pub struct Plan<'a> {
     pub level_count: u32,
@@ -98,7 +98,7 @@ pub struct Plan<'a> {
 }
 
 impl Level {
-    // The lanes of the level below, where this one has so many lanes; at most what 32 bits hold.
+    /// The lanes of the level below, where this one has so many lanes; at most what 32 bits hold.
     pub fn lanes_below(&self, lanes: u32) -> u32
         ensures { result ≡ lanes_below lanes self.now }
     {
@@ -107,7 +107,7 @@ impl Level {
 }
 
 impl<'a> Plan<'a> {
-    // A plan that uses nothing.
+    /// A plan that uses nothing.
     pub fn blank() -> Plan<'a>
         ensures { plan_numbers result ≡ blank_plan }
     {
@@ -119,14 +119,14 @@ impl<'a> Plan<'a> {
         }
     }
 
-    // The levels that the plan uses, the top level first.
+    /// The levels that the plan uses, the top level first.
     pub fn used_levels(&self) -> &[Level]
         ensures { result.now ≡ used_levels (plan_numbers self.now) }
     {
         front(&self.levels, self.level_count as usize)
     }
 
-    // How many workers there are: as many as the level below the last would have lanes.
+    /// How many workers there are: as many as the level below the last would have lanes.
     pub fn workers(&self) -> u32
         ensures { result ≡ workers_of (plan_numbers self.now) }
     {
@@ -135,7 +135,7 @@ impl<'a> Plan<'a> {
             .fold(1, |lanes, level| level.lanes_below(lanes))
     }
 
-    // The workers' scripts.
+    /// The workers' scripts.
     pub fn used_scripts(&self) -> &[Script]
         ensures { result.now ≡ used_scripts (plan_numbers self.now) }
     {

@@ -1,4 +1,4 @@
-// Reads a whole turn file into a plan.
+//! Reads a whole turn file into a plan.
 ghost use Rattle.std.specs.Prelude.{◌≡◌, length};
 ghost use Rattle.turn_file.specs.Order.{ReadWhole};
 ghost use Rattle.turn_file.specs.Plan.{plan_numbers, put, with_record, plan_of, judgement, filled};
@@ -35,7 +35,7 @@ fn put<T: Copy>(table: &mut [T], place: usize, value: T)
     }
 }
 
-// Reads the file into `plan`, the unused part of its tables blank. A refusal leaves the plan as it was.
+/// Reads the file into `plan`, the unused part of its tables blank. A refusal leaves the plan as it was.
 pub fn read_plan<'a>(file: &'a [u8], plan: &mut Plan<'a>) -> Result<(), FileFault>
     ensures answer { result ≡ judgement (plan_of file.now) }
     ensures plan { plan_numbers plan.new ≡ filled plan.old (plan_of file.now) }

@@ -1,15 +1,15 @@
-// The records that a reader hands out.
+//! The records that a reader hands out.
 use crate::plan::{Level, Script};
 
-// A part of the file, and the place where it begins.
+/// A part of the file, and the place where it begins.
 #[derive(Clone, Copy, Debug)]
 pub struct Part<'a> {
     pub bytes: &'a [u8],
     pub place: usize,
 }
 
-// A record with its part of the file. The part of the schedule holds only the entries, a byte each.
-// `rank` counts the levels above this one, and `worker` the workers before this one.
+/// A record with its part of the file. The part of the schedule holds only the entries, a byte each.
+/// `rank` counts the levels above this one, and `worker` the workers before this one.
 #[derive(Clone, Copy, Debug)]
 pub enum Record<'a> {
     Levels {

@@ -1,5 +1,5 @@
-// Reads the records of a file, each a row of numbers. A number is judged as a number, then by its value,
-// before the next is read.
+//! Reads the records of a file, each a row of numbers. A number is judged as a number, then by its value,
+//! before the next is read.
 ghost use Rattle.turn_file.specs.Record.{number_in, value_at, algorithm_at, limit_at, level_at};
 ghost use Rattle.turn_file.specs.Record.{script_at, entries_end, schedule_at};
 ghost use Rattle.turn_file.specs.Scanning.{Reads, Passes};
@@ -9,7 +9,7 @@ use crate::field::Field;
 use crate::number::read_number;
 use crate::plan::{Algorithm, Level, Script};
 
-// A file, and the place that is read next.
+/// A file, and the place that is read next.
 #[derive(Clone, Copy)]
 pub(crate) struct Scan<'a> {
     pub(crate) file: &'a [u8],
@@ -26,7 +26,7 @@ impl Scan<'_> {
         Ok(value)
     }
 
-    // A number that only some values fit.
+    /// A number that only some values fit.
     pub(crate) fn value(&mut self, field: Field) -> Result<u32, RecordFault>
         ensures { Reads (value_at field) self.old result self.new }
     {
@@ -55,7 +55,7 @@ impl Scan<'_> {
         }
     }
 
-    // A level with `rank` levels above it, which have `parties` parties.
+    /// A level with `rank` levels above it, which have `parties` parties.
     pub(crate) fn level(&mut self, rank: u32, parties: u32) -> Result<Level, RecordFault>
         ensures { Reads (level_at rank parties) self.old result self.new }
     {
@@ -86,7 +86,7 @@ impl Scan<'_> {
         Ok(())
     }
 
-    // The place of the first entry.
+    /// The place of the first entry.
     pub(crate) fn schedule(&mut self, workers: u32) -> Result<usize, RecordFault>
         ensures { Reads (schedule_at workers) self.old result self.new }
     {

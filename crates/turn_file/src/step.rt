@@ -1,4 +1,4 @@
-// Which record comes next in a file, and what is read of it.
+//! Which record comes next in a file, and what is read of it.
 ghost use Rattle.std.specs.Prelude.{◌≡◌, ◌+◌, ◌<◌, ◌≤◌, length, SomeIff};
 ghost use Rattle.std.specs.List.{between};
 ghost use Rattle.turn_file.specs.Reading.{after_level, after_script, seen_next};
@@ -10,7 +10,7 @@ use crate::field::Field;
 use crate::record::{Part, Record};
 use crate::scan::Scan;
 
-// Which record comes next. `parties` is the product of the fan-outs so far.
+/// Which record comes next. `parties` is the product of the fan-outs so far.
 #[derive(Clone, Copy)]
 pub(crate) enum Stage {
     Levels,
@@ -20,7 +20,7 @@ pub(crate) enum Stage {
     End,
 }
 
-// A record that was read, the place after it, and which record comes next.
+/// A record that was read, the place after it, and which record comes next.
 #[derive(Drop)]
 pub(crate) struct Step<'a> {
     pub(crate) record: Record<'a>,
@@ -140,7 +140,7 @@ impl<'a> Scan<'a> {
         })
     }
 
-    // The next record, or none where the file ends as it should.
+    /// The next record, or none where the file ends as it should.
     pub(crate) fn step(self, stage: Stage) -> Result<Option<Step<'a>>, FileFault>
         ensures { seen_next result ≡ next_step self.entry.file.now self.entry.place stage }
     {

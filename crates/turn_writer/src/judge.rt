@@ -1,6 +1,6 @@
-// Judges a plan number by number, in the order of a file. A number is judged where it would stand:
-// each answer is the place after what was judged, or a fault with the place of the number.
-// `at` is below 2^16 before the schedule, 2^20 before a row, 2^31 before one record, 2^32 before one number.
+//! Judges a plan number by number, in the order of a file. A number is judged where it would stand:
+//! each answer is the place after what was judged, or a fault with the place of the number.
+//! `at` is below 2^16 before the schedule, 2^20 before a row, 2^31 before one record, 2^32 before one number.
 ghost use Rattle.std.specs.Prelude.{◌≡◌, ◌^◌, ◌<◌, ◌≤◌, length};
 ghost use Rattle.std.specs.List.{AllByRecursion};
 ghost use Rattle.turn_file.specs.Fault.{longest_file};
@@ -146,7 +146,7 @@ fn past_header(plan: &Plan<'_>) -> Result<usize, RecordFault>
     past_scripts(at_scripts, plan.used_scripts())
 }
 
-// How long the plan's file is, or why the plan cannot be written.
+/// How long the plan's file is, or why the plan cannot be written.
 pub(crate) fn past_plan(plan: &Plan<'_>) -> Result<usize, FileFault>
     ensures end { result ≡ file_length (plan_numbers plan.now) }
     ensures known { Known (plan_numbers plan.now) }

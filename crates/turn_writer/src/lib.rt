@@ -1,4 +1,4 @@
-// Writes turn files.
+//! Writes turn files.
 #![tactic(auto)]
 
 mod judge;

@@ -1,9 +1,9 @@
-// Writes bytes and numbers into an output, one behind the other.
-// A number is groups of seven bits, lowest first, the top bit set in all but the last.
+//! Writes bytes and numbers into an output, one behind the other.
+//! A number is groups of seven bits, lowest first, the top bit set in all but the last.
 ghost use Rattle.std.specs.Prelude.{◌≡◌, ◌≤◌, [], ◌∷◌, length};
 ghost use Rattle.turn_file.specs.Spelling.{spell};
 
-// An output, and the place that the next byte goes to.
+/// An output, and the place that the next byte goes to.
 #[derive(Drop)]
 pub(crate) struct Pen<'a> {
     out: &'a mut [u8],

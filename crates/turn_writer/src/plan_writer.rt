@@ -1,4 +1,4 @@
-// Writes a whole plan.
+//! Writes a whole plan.
 ghost use Rattle.std.specs.Prelude.{◌≡◌, length};
 ghost use Rattle.turn_file.specs.Plan.{plan_numbers};
 ghost use Rattle.turn_writer.specs.Judgement.{file_length};
@@ -10,7 +10,7 @@ use crate::record_writer::write_records;
 use turn_file::fault::FileFault;
 use turn_file::plan::Plan;
 
-// How long the plan's file is, or why the plan cannot be written, whatever space there is.
+/// How long the plan's file is, or why the plan cannot be written, whatever space there is.
 pub fn file_length(plan: &Plan<'_>) -> Result<usize, FileFault>
     ensures answer { result ≡ file_length (plan_numbers plan.now) }
     ensures law { Measures (plan_numbers plan.now) result }
@@ -18,8 +18,8 @@ pub fn file_length(plan: &Plan<'_>) -> Result<usize, FileFault>
     past_plan(plan)
 }
 
-// Writes the plan into the front of `out`; the answer is the length of the file.
-// A refusal leaves the output as it was.
+/// Writes the plan into the front of `out`; the answer is the length of the file.
+/// A refusal leaves the output as it was.
 pub fn write_plan(plan: &Plan<'_>, out: &mut [u8]) -> Result<usize, FileFault>
     ensures answer { result ≡ written_length (plan_numbers plan.now) (length out.old) }
     ensures output { out.new ≡ output_after out.old (plan_numbers plan.now) result }

@@ -1,4 +1,4 @@
-// Writes the records of a plan.
+//! Writes the records of a plan.
 ghost use Rattle.turn_file.specs.Plan.{plan_numbers};
 ghost use Rattle.turn_writer.specs.Page.{HasRoom, Wrote};
 ghost use Rattle.turn_writer.specs.Records.{level_spelling, script_spelling, levels_spelling, scripts_spelling};
@@ -68,7 +68,7 @@ fn write_schedule(pen: &mut Pen<'_>, entries: &[u8])
     pen.write_bytes(entries);
 }
 
-// All records of a plan.
+/// All records of a plan.
 pub(crate) fn write_records(pen: &mut Pen<'_>, plan: &Plan<'_>)
     requires plain { IsPlain (plan_numbers plan.now).entries }
     requires room { HasRoom (plan_spelling (plan_numbers plan.now)) pen.old }

@@ -1,4 +1,4 @@
-// A checksum of numbers in their order.
+//! A checksum of numbers in their order.
 ghost use Rattle.std.specs.Prelude.{◌≡◌, ◌+◌, ◌*◌, ◌%◌, ◌^◌, ℕ};
 ghost use Rattle.std.specs.List.{FoldsTo};
 
@@ -8,7 +8,7 @@ pub(crate) fn mix(sum: u64, number: u64) -> u64
     sum.wrapping_mul(31).wrapping_add(number)
 }
 
-// Mixes in each number, one after another.
+/// Mixes in each number, one after another.
 pub(crate) fn mix_all<T: Copy + Into<u64>>(sum: u64, numbers: &[T]) -> u64
     ensures { FoldsTo (λ s x t. (n : ℕ) × T.converts x n × (t ≡ (s * 31 + n) % 2 ^ 64)) sum numbers.now result }
 {

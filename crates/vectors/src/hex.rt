@@ -1,5 +1,5 @@
-// Bytes in hexadecimal, two digits to a byte, with blanks where one likes.
-// A star and a number after a byte repeat it: `0a 00*3` is `0a 00 00 00`.
+//! Bytes in hexadecimal, two digits to a byte, with blanks where one likes.
+//! A star and a number after a byte repeat it: `0a 00*3` is `0a 00 00 00`.
 ghost use Rattle.std.specs.Prelude.{◌≡◌, ◌<◌, ◌↔◌, IfOk, IsOk};
 ghost use Rattle.std.specs.Char.{digit_value};
 

@@ -1,7 +1,7 @@
-// Reads turn files and plans on standard input, a line for each, and prints a line on each.
-// A file is a line of hexadecimal: the answer is what it holds, or why it is refused;
-// or the word `changed`, where the writer makes another file of the plan that was read.
-// A plan is a line that begins with the word `plan`: the answer is how it is written, or why it is refused.
+//! Reads turn files and plans on standard input, a line for each, and prints a line on each.
+//! A file is a line of hexadecimal: the answer is what it holds, or why it is refused;
+//! or the word `changed`, where the writer makes another file of the plan that was read.
+//! A plan is a line that begins with the word `plan`: the answer is how it is written, or why it is refused.
 #![tactic(auto)]
 
 mod checksum;

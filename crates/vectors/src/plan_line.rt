@@ -1,13 +1,13 @@
-// A line that describes a plan, and the space that is lent for its file:
-// `plan SPACE COUNT levels A F H .. scripts T R H .. schedule E E*N ..`.
-// COUNT is the plan's count of levels. A level is its algorithm, fan-out and handoff limit, a script its turns,
-// rest and hold. The tables may be shorter than COUNT and the fan-outs say, or longer; what is missing stays blank.
+//! A line that describes a plan, and the space that is lent for its file:
+//! `plan SPACE COUNT levels A F H .. scripts T R H .. schedule E E*N ..`.
+//! COUNT is the plan's count of levels. A level is its algorithm, fan-out and handoff limit, a script its turns,
+//! rest and hold. The tables may be shorter than COUNT and the fan-outs say, or longer; what is missing stays blank.
 use crate::repeated::split_times;
 use anyhow::{Context, bail, ensure};
 use std::alloc::Global;
 use turn_file::plan::{Algorithm, Level, Plan, Script};
 
-// The length of the output, the plan's levels and scripts, and the entries of its schedule.
+/// The length of the output, the plan's levels and scripts, and the entries of its schedule.
 #[derive(Drop)]
 pub(crate) struct PlanLine {
     pub(crate) space: usize,
@@ -16,7 +16,7 @@ pub(crate) struct PlanLine {
 }
 
 impl PlanLine {
-    // Reads what follows the word `plan`.
+    /// Reads what follows the word `plan`.
     pub(crate) fn parse(heap: Global, line: &str) -> anyhow::Result<PlanLine> {
         let (sizes, rest) = line.split_once("levels").context("no levels")?;
         let (levels, rest) = rest.split_once("scripts").context("no scripts")?;

@@ -1,4 +1,4 @@
-// What is said of a plan that was read.
+//! What is said of a plan that was read.
 use crate::checksum::{mix, mix_all};
 use std::fmt;
 use turn_file::plan::{Level, Plan, Script};

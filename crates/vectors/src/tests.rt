@@ -1,4 +1,4 @@
-// What is known of numbers, of a few files and of a plan that is written.
+//! What is known of numbers, of a few files and of a plan that is written.
 use std::test::Fail;
 use turn_file::fault::{FileFault, NumberFault, RecordFault};
 use turn_file::number::read_number;

@@ -1,4 +1,4 @@
-// What the writer makes of a plan.
+//! What the writer makes of a plan.
 use crate::checksum::mix_all;
 use crate::plan_line::PlanLine;
 use std::alloc::{AllocError, Global};
@@ -7,8 +7,8 @@ use turn_file::fault::FileFault;
 use turn_file::plan::Plan;
 use turn_writer::plan_writer::write_plan;
 
-// The writer's answer is the length of the file, or why the plan is refused.
-// The checksum is that of the whole output, so that it shows a byte written at a refusal, or behind the file.
+/// The writer's answer is the length of the file, or why the plan is refused.
+/// The checksum is that of the whole output, so that it shows a byte written at a refusal, or behind the file.
 #[derive(Drop)]
 pub(crate) struct Outcome {
     answer: Result<usize, FileFault>,
@@ -39,7 +39,7 @@ fn blank_output(heap: Global, length: usize) -> Result<Vec<u8>, AllocError> {
     vec![in heap; 0xaa; length]
 }
 
-// Whether the writer makes the same file again of the plan that was read of it.
+/// Whether the writer makes the same file again of the plan that was read of it.
 pub(crate) fn is_written_back(
     heap: Global,
     plan: &Plan<'_>,

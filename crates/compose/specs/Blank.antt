@@ -1,4 +1,4 @@
--- The bytes that part words: a blank, a tab, and the ends of lines.
+-- The bytes that part words: a space, a tab, and the ends of lines.
 use Rattle.std.specs.Prelude.{ℕ, ◌≡◌, ◌⊎◌}
 
 abbrev pub IsBlank : ℕ → Type 0

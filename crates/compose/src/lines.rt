@@ -30,7 +30,7 @@ impl<'a> Iterator for Lines<'a> {
 
     ghost remaining = { λ lines. at_most (length lines.rest.now) };
 
-    // The loop holds the text as it was at the call. `self.rest` follows it, and is always what the loop has left.
+    // `split_inclusive` goes over the text as it was at the call; `self.rest` is kept at what is left behind the line.
     fn next(&mut self) -> Option<Words<'a>> {
         for line in self.rest.split_inclusive(|byte| *byte == b'\n') {
             let words = Words::new(self.number, line);

@@ -67,9 +67,9 @@ fn impossible(rt: HostRuntime) -> Result<(), Fail> {
 }
 
 fn failure_of(heap: Global, text: &str) -> Result<String, Fail> {
-    let Err(failure) = Composition::read(heap, text.as_bytes()) else {
-        return Err(Fail::new("the text is read"));
-    };
+    let failure = Composition::read(heap, text.as_bytes())
+        .err()
+        .ok_or("the text is read")?;
     Ok(failure.to_string(heap)?)
 }
 

@@ -66,7 +66,7 @@ impl<'a> Words<'a> {
         }
     }
 
-    pub(crate) fn expect_number(&mut self) -> Result<u32, Unreadable> {
+    fn expect_number(&mut self) -> Result<u32, Unreadable> {
         self.next()
             .and_then(parse_number)
             .ok_or(self.lacks(Expected::Number))

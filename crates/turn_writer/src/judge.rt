@@ -1,6 +1,7 @@
 //! Judges a plan number by number, in the order of a file. A number is judged where it would stand:
 //! each answer is the place after what was judged, or a fault with the place of the number.
-//! `at` is below 2^16 before the schedule, 2^20 before a row, 2^31 before one record, 2^32 before one number.
+//! `at` is below 2^16 before the schedule, 2^20 before all levels, scripts or entries, 2^31 before one record,
+//! and 2^32 before one number.
 ghost use Rattle.std.specs.Prelude.{◌≡◌, ◌^◌, ◌<◌, ◌≤◌, length};
 ghost use Rattle.std.specs.List.{AllByRecursion};
 ghost use Rattle.turn_file.specs.Fault.{longest_file};
@@ -98,7 +99,7 @@ fn past_entries(at: usize, workers: u32, entries: &[u8]) -> Result<usize, Record
     entries.iter().try_fold(at, |next, entry| past_field(next, field, u32::from(*entry)))
 }
 
-// A length that a file may have.
+// The length, where a file may have it.
 fn within_file(length: usize) -> Result<usize, FileFault>
     ensures { result ≡ within_file length }
 {
@@ -108,7 +109,7 @@ fn within_file(length: usize) -> Result<usize, FileFault>
     Ok(length)
 }
 
-// The count of entries is judged before them.
+// The count of entries is judged before them. A caller also learns that each entry is a number of 32 bits.
 fn past_entry_count(at: usize, entries: &[u8]) -> Result<usize, FileFault>
     requires { at < 2 ^ 16 }
     ensures end { result ≡ past_entry_count entries.now at }

@@ -49,7 +49,7 @@ fn answer_plan(out: &mut impl Write, heap: Global, words: &str) -> anyhow::Resul
     Ok(())
 }
 
-fn run(rt: &HostRuntime) -> anyhow::Result<()> {
+fn main(rt: HostRuntime) -> anyhow::Result<()> {
     let heap = rt.alloc();
     let mut out = BufWriter::new(heap, rt.stdout())?;
     for line in BufReader::new(heap, rt.stdin())?.lines(heap) {
@@ -61,8 +61,4 @@ fn run(rt: &HostRuntime) -> anyhow::Result<()> {
     }
     out.flush()?;
     Ok(())
-}
-
-fn main(rt: HostRuntime) -> anyhow::Result<()> {
-    run(&rt)
 }

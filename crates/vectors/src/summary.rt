@@ -56,9 +56,9 @@ fn mix_script(sum: u64, script: &Script) -> u64 {
 
 // Of all numbers of the plan, in the order of the file.
 fn checksum(plan: &Plan<'_>) -> u64 {
-    let level_count = mix(0, u64::from(plan.level_count));
-    let levels = mix_levels(level_count, plan.used_levels());
-    let scripts = plan.used_scripts().iter().fold(levels, mix_script);
-    let entry_count = mix(scripts, plan.schedule.len() as u64);
-    mix_all(entry_count, plan.schedule)
+    let with_count = mix(0, u64::from(plan.level_count));
+    let with_levels = mix_levels(with_count, plan.used_levels());
+    let with_scripts = plan.used_scripts().iter().fold(with_levels, mix_script);
+    let with_entry_count = mix(with_scripts, plan.schedule.len() as u64);
+    mix_all(with_entry_count, plan.schedule)
 }

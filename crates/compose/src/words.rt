@@ -55,7 +55,7 @@ impl<'a> Words<'a> {
         }
     }
 
-    fn demand(&self, met: bool, expected: Expected) -> Result<(), Unreadable>
+    fn expect_that(&self, met: bool, expected: Expected) -> Result<(), Unreadable>
         ensures met { IsOk result ↔ IsTrue met }
         ensures lacks { IfErr result (λ e. (e.line ≡ self.now.line) × (e.expected ≡ expected)) }
     {
@@ -74,7 +74,7 @@ impl<'a> Words<'a> {
 
     pub(crate) fn expect_word(&mut self, word: &'static str) -> Result<(), Unreadable> {
         let met = self.next() == Some(word.as_bytes());
-        self.demand(met, Expected::Word(word))
+        self.expect_that(met, Expected::Word(word))
     }
 
     /// A word and the number behind it, as `fan-out 2`.
@@ -91,13 +91,13 @@ impl<'a> Words<'a> {
     ) -> Result<(), Unreadable> {
         let met = self.next() == Some(name.as_bytes())
             && self.next().and_then(parse_number) == Some(number);
-        self.demand(met, Expected::Record { name, number })
+        self.expect_that(met, Expected::Record { name, number })
     }
 
     pub(crate) fn expect_end(&self) -> Result<(), Unreadable>
         ensures { IsOk result ↔ All IsBlank self.now.rest.now }
     {
-        self.demand(self.is_empty(), Expected::EndOfLine)
+        self.expect_that(self.is_empty(), Expected::EndOfLine)
     }
 }
 

@@ -1,7 +1,7 @@
 -- The numbers of an accepted record, and that their values fit.
 use Rattle.std.proofs.Common.{◌≡◌, ℕ, false, ◌⊎◌, List, Ok, subst, inl, inr}
 use Rattle.std.proofs.lemmas.Bool.Decides.{eqb_tells}
-use Rattle.turn_file.specs.declared.fault.RecordFault.TheVariants as fault
+use Rattle.turn_file.specs.declared.field.Field.TheVariants as field
 use Rattle.turn_file.specs.declared.fault.RecordKind.TheVariants as kind
 use Rattle.turn_file.specs.declared.plan.Level.{Level}
 use Rattle.turn_file.specs.declared.plan.Script.{Script}
@@ -19,13 +19,13 @@ pub limit_ok : (rank : ℕ) (file : List ℕ) (at : ℕ) (n : ℕ × ℕ) → li
 limit_ok rank file at n e =
     elim (eqb_tells rank 0) [
       | inl t ↦ inl (t.1, let s = simp t.0 at e in cc)
-      | inr t ↦ inr (let f = field_ok kind.Level bad_limit (fault.HandoffLimit at) file at n (simp t.0 at e) in
+      | inr t ↦ inr (let f = field_ok field.HandoffLimit file at n (simp t.0 at e) in
           (t.1, f.0, f.1))
     ]
 
 pub fan_out_ok : (parties : ℕ) (file : List ℕ) (at : ℕ) (n : ℕ × ℕ) → fan_out_at parties file at ≡ Ok n →
     (number_at file at ≡ Ok n) × (bad_fan_out parties n.0 ≡ false)
-fan_out_ok parties file at n e = field_ok kind.Level (bad_fan_out parties) (fault.FanOut at) file at n e
+fan_out_ok parties file at n e = field_ok (field.FanOut parties) file at n e
 
 -- the numbers of an accepted level
 pub record LevelFields (rank parties : ℕ) (file : List ℕ) (at : ℕ) (l : Level) (to : ℕ) : Type 0 where
@@ -64,7 +64,7 @@ pub record ScriptFields (file : List ℕ) (at : ℕ) (s : Script) (to : ℕ) : T
 
 pub script_number_ok : (file : List ℕ) (at : ℕ) (n : ℕ × ℕ) → script_number_at file at ≡ Ok n →
     (number_at file at ≡ Ok n) × (bad_script_number n.0 ≡ false)
-script_number_ok file at n e = field_ok kind.Script bad_script_number (fault.ScriptNumber at) file at n e
+script_number_ok file at n e = field_ok field.ScriptNumber file at n e
 
 pub script_ok : (file : List ℕ) (at : ℕ) (s : Script × ℕ) → script_at file at ≡ Ok s →
     ScriptFields file at s.0 s.1
@@ -84,11 +84,11 @@ script_ok file at s e =
 
 pub levels_ok : (file : List ℕ) (at : ℕ) (n : ℕ × ℕ) → levels_at file at ≡ Ok n →
     (number_at file at ≡ Ok n) × (bad_levels n.0 ≡ false)
-levels_ok file at n e = field_ok kind.Levels bad_levels (fault.LevelCount at) file at n e
+levels_ok file at n e = field_ok field.LevelCount file at n e
 
 pub entry_ok : (workers : ℕ) (file : List ℕ) (at : ℕ) (n : ℕ × ℕ) → entry_at workers file at ≡ Ok n →
     (number_at file at ≡ Ok n) × (bad_entry workers n.0 ≡ false)
-entry_ok workers file at n e = field_ok kind.Schedule (bad_entry workers) (fault.Entry at) file at n e
+entry_ok workers file at n e = field_ok (field.Entry workers) file at n e
 
 -- the count and the entries of an accepted schedule
 pub record ScheduleFields (workers : ℕ) (file : List ℕ) (at first to : ℕ) : Type 0 where

@@ -2,8 +2,8 @@
 use Rattle.std.proofs.Common.{◌≡◌, ℕ, ◌+◌, ◌*◌, ◌^◌, ◌<◌, ◌≤◌, true, false, cond, eqb, ◌⊎◌, List, [], ◌∷◌, length, Some, Ok, Result, sym, refl, ap, ◌∙◌, subst, inl, inr, mul_comm, le-mul_of_pos_right, arith}
 use Rattle.std.proofs.lemmas.Bool.Decides.{nat_tests}
 use Rattle.std.specs.List.{between, flat_map, AllByRecursion}
+use Rattle.turn_file.specs.declared.field.Field.TheVariants as field
 use Rattle.turn_file.specs.declared.fault.RecordFault.{RecordFault}
-use Rattle.turn_file.specs.declared.fault.RecordFault.TheVariants as fault
 use Rattle.turn_file.specs.declared.fault.RecordKind.TheVariants as kind
 use Rattle.turn_file.specs.declared.plan.Algorithm.{Algorithm}
 use Rattle.turn_file.specs.declared.plan.Algorithm.TheVariants.{Ticket, Mcs}
@@ -14,7 +14,6 @@ use Rattle.turn_file.specs.declared.step.Stage.TheVariants as stage
 use Rattle.turn_file.specs.Order.{record_spelling, LevelFits, ScriptFits, Comes}
 use Rattle.turn_file.specs.Reading.{Item, level, script, schedule, Stepped, in_order, next_step}
 use Rattle.turn_file.specs.Algorithm.{algorithm_number}
-use Rattle.turn_file.specs.Field.{bad_levels, bad_fan_out, bad_limit, bad_script_number, bad_entry}
 use Rattle.turn_file.specs.Record.{bind, with_kind, levels_at}
 use Rattle.turn_file.specs.Record.{fan_out_at, limit_at, level_at}
 use Rattle.turn_file.specs.Record.{script_number_at, script_at, entries_end, schedule_at}
@@ -38,13 +37,13 @@ bind_is next e k = ap (λ r. bind r next) e ∙ k
 module _ (file : List ℕ) where
   levels_complete : (n at to : ℕ) → 1 ≤ n → n ≤ 4 → Stands (spell n) file at to → levels_at file at ≡ Ok (n, to)
   levels_complete n at to some few s =
-      field_is kind.Levels bad_levels (fault.LevelCount at) file at (n, to)
+      field_is field.LevelCount file at (n, to)
       (spelled_number file at n to (omega arith) s) (grind (arith, nat_tests))
 
   fan_out_complete : (parties n at to : ℕ) → 1 ≤ n → parties * n ≤ 64 → n < 2 ^ 32 → Stands (spell n) file at to →
       fan_out_at parties file at ≡ Ok (n, to)
   fan_out_complete parties n at to some few small s =
-      field_is kind.Level (bad_fan_out parties) (fault.FanOut at) file at (n, to)
+      field_is (field.FanOut parties) file at (n, to)
       (spelled_number file at n to small s) (grind (arith, nat_tests))
 
   limit_complete : (rank n at to : ℕ) → ((rank ≡ 0) × (n ≡ 0)) ⊎ ((rank ≡ 0 → ⊥) × (1 ≤ n) × (n ≤ 65535)) →
@@ -56,7 +55,7 @@ module _ (file : List ℕ) where
       simp top (ap Ok same)
   limit_complete rank n at to (inr t) s =
       let below : eqb rank 0 ≡ false = grind (arith, nat_tests) in
-      simp below (field_is kind.Level bad_limit (fault.HandoffLimit at) file at (n, to)
+      simp below (field_is field.HandoffLimit file at (n, to)
       (spelled_number file at n to (omega arith) (simp below at s)) (grind (arith, nat_tests)))
 
   level_complete : (rank parties at to : ℕ) (l : Level) → 1 ≤ parties → LevelFits rank parties l →
@@ -73,7 +72,7 @@ module _ (file : List ℕ) where
   script_number_complete : (n at to : ℕ) → n ≤ 65535 → Stands (spell n) file at to →
       script_number_at file at ≡ Ok (n, to)
   script_number_complete n at to few s =
-      field_is kind.Script bad_script_number (fault.ScriptNumber at) file at (n, to)
+      field_is field.ScriptNumber file at (n, to)
       (spelled_number file at n to (omega arith) s) (grind (arith, nat_tests))
 
   script_complete : (worker at to : ℕ) (t : Script) → ScriptFits t →
@@ -92,7 +91,7 @@ module _ (file : List ℕ) where
       let first = stands_split (spell e) (flat_map spell es) file at to s in
       let fits = all.0 in
       bind_is _
-      (field_is kind.Schedule (bad_entry workers) (fault.Entry at) file at (e, at + length (spell e))
+      (field_is (field.Entry workers) file at (e, at + length (spell e))
       (spelled_number file at e _ (omega arith) first.0) (grind (arith, nat_tests)))
       (entries_complete workers (at + length (spell e)) to es few all.1 first.1)
 

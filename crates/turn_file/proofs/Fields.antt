@@ -1,6 +1,9 @@
 -- What an accepted field says: which number stands there, and that its value fits.
-use Rattle.std.proofs.Common.{◌≡◌, ℕ, ◌*◌, ◌≤◌, Bool, true, false, cond, List, Ok, Err, Result, sym, refl, ap, ◌∙◌, arith}
+use Rattle.std.proofs.Common.{◌≡◌, ℕ, ◌*◌, ◌≤◌, false, cond, List, Ok, Err, Result, sym, refl, ap, ◌∙◌, arith}
 use Rattle.std.proofs.lemmas.Bool.Decides.{nat_tests}
+use Rattle.turn_file.specs.declared.field.Field.{Field}
+use Rattle.turn_file.specs.Field.{field_kind, field_refuses, field_fault}
+use Rattle.turn_file.proofs.Refusals.{kept}
 use Rattle.turn_file.specs.declared.fault.NumberFault.{NumberFault}
 use Rattle.turn_file.specs.declared.fault.RecordFault.{RecordFault}
 use Rattle.turn_file.specs.declared.fault.RecordFault.TheVariants as fault
@@ -10,7 +13,7 @@ use Rattle.turn_file.specs.declared.plan.Algorithm.{Algorithm}
 use Rattle.turn_file.specs.declared.plan.Algorithm.TheVariants.{Ticket, Mcs}
 use Rattle.turn_file.specs.Number.{number_at}
 use Rattle.turn_file.specs.Algorithm.{algorithm_number}
-use Rattle.turn_file.specs.Record.{bind, with_kind, field_at, algorithm_of, algorithm_at}
+use Rattle.turn_file.specs.Record.{bind, with_kind, value_at, algorithm_of, algorithm_at}
 use Rattle.turn_file.specs.Field.{bad_fan_out}
 
 -- what was read first, and what came of it
@@ -24,22 +27,19 @@ pub number_ok : {B : Type 0} (k : RecordKind) (r : Result (ℕ × ℕ) NumberFau
 number_ok k (Ok n) value b e = (n, refl, e)
 number_ok k (Err f) value b e = cc
 
-not_refused : {A : Type 0} (bad : Bool) (f : RecordFault) (a b : A) → cond bad (Err f) (Ok a) ≡ Ok b → (bad ≡ false)
-    × (a ≡ b)
-not_refused true f a b e = cc
-not_refused false f a b e = (refl, cc)
-
-module _ (k : RecordKind) (bad : ℕ → Bool) (f : RecordFault) (file : List ℕ) (at : ℕ) (n : ℕ × ℕ) where
-  pub field_ok : field_at k bad f file at ≡ Ok n → (number_at file at ≡ Ok n) × (bad n.0 ≡ false)
+module _ (field : Field) (file : List ℕ) (at : ℕ) (n : ℕ × ℕ) where
+  pub field_ok : value_at field file at ≡ Ok n → (number_at file at ≡ Ok n) × (field_refuses field n.0 ≡ false)
   field_ok e =
-      let j = number_ok k (number_at file at) (λ m. cond (bad m.0) (Err f) (Ok m)) n e in
-      let s = not_refused (bad j.0.0) f j.0 n j.2 in
-      (j.1 ∙ ap Ok s.1, ap (λ m. bad m.0) (sym s.1) ∙ s.0)
+      let j = number_ok (field_kind field) (number_at file at)
+      (λ m. cond (field_refuses field m.0) (Err (field_fault field at)) (Ok m)) n e in
+      let s = kept (field_refuses field j.0.0) (field_fault field at) j.0 n j.2 in
+      (j.1 ∙ ap Ok s.1, ap (λ m. field_refuses field m.0) (sym s.1) ∙ s.0)
 
-  pub field_is : number_at file at ≡ Ok n → bad n.0 ≡ false → field_at k bad f file at ≡ Ok n
+  pub field_is : number_at file at ≡ Ok n → field_refuses field n.0 ≡ false → value_at field file at ≡ Ok n
   field_is found fits =
-      ap (λ r. bind (with_kind k r) (λ m. cond (bad m.0) (Err f) (Ok m))) found
-      ∙ ap (λ t. cond t (Err f) (Ok n)) fits
+      ap (λ r. bind (with_kind (field_kind field) r)
+      (λ m. cond (field_refuses field m.0) (Err (field_fault field at)) (Ok m))) found
+      ∙ ap (λ t. cond t (Err (field_fault field at)) (Ok n)) fits
 
 algorithm_of_ok : (n : ℕ) (f : RecordFault) (a : Algorithm) → algorithm_of n f ≡ Ok a → n ≡ algorithm_number a
 algorithm_of_ok n f Ticket e = grind (arith, nat_tests)

@@ -5,6 +5,7 @@ pub mod Fields
 pub mod Groups
 pub mod Orders
 pub mod Plans
+pub mod Refusals
 pub mod Refused
 pub mod Sound
 pub mod Spelled

@@ -1,6 +1,10 @@
 -- A fault lies at a number of the record that is refused.
 use Rattle.std.proofs.Common.{◌≡◌, ℕ, zero, suc, ◌+◌, ◌≤◌, Bool, true, false, cond, ltb, ◌⊎◌, List, [], ◌∷◌, length, drop, None, Ok, Err, Option, Result, sym, refl, ap, ◌∙◌, subst, inl, inr, arith}
 use Rattle.std.proofs.lemmas.Bool.Decides.{nat_tests, eqb_tells}
+use Rattle.turn_file.specs.declared.field.Field.{Field}
+use Rattle.turn_file.specs.Field.{field_kind, field_refuses, field_fault}
+use Rattle.turn_file.proofs.Refusals.{refused}
+use Rattle.turn_file.specs.declared.field.Field.TheVariants as field
 use Rattle.turn_file.specs.declared.fault.FileFault.{FileFault}
 use Rattle.turn_file.specs.declared.fault.FileFault.TheVariants.{TrailingByte}
 use Rattle.turn_file.specs.declared.fault.NumberFault.{NumberFault}
@@ -16,8 +20,7 @@ use Rattle.turn_file.specs.declared.number.Group.{Group}
 use Rattle.turn_file.specs.declared.number.Group.TheVariants.{Last, More}
 use Rattle.turn_file.specs.Number.{group_of, group_before, judged, groups, number_at}
 use Rattle.turn_file.specs.Reading.{Stepped, in_order, next_step, levels_step, level_step, script_step, schedule_step}
-use Rattle.turn_file.specs.Record.{bind, with_kind, field_at, levels_at, algorithm_of, algorithm_at, fan_out_at}
-use Rattle.turn_file.specs.Field.{bad_levels, bad_fan_out, bad_limit, bad_script_number, bad_entry}
+use Rattle.turn_file.specs.Record.{bind, with_kind, value_at, levels_at, algorithm_of, algorithm_at, fan_out_at}
 use Rattle.turn_file.specs.Record.{limit_at, level_at, script_number_at, script_at, entry_at, entries_end, schedule_at}
 use Rattle.turn_file.proofs.Accepted.{fan_out_ok, script_number_ok, entry_ok}
 use Rattle.turn_file.proofs.Fields.{algorithm_ok}
@@ -58,17 +61,23 @@ pub bind_err : {A B : Type 0} (r : Result A RecordFault) (next : A → Result B 
 bind_err (Ok a) next f is = inr (a, refl, is)
 bind_err (Err g) next f is = let same : g ≡ f = cc in inl (ap Err same)
 
-refused_by : {A : Type 0} (bad : Bool) (a : A) (f g : RecordFault) → cond bad (Err f) (Ok a) ≡ Err g → f ≡ g
-refused_by true a f g is = cc
-refused_by false a f g is = cc
+-- the place of a field's fault, and so of a field that is refused, is that of its number
+here : (field : Field) (at : ℕ) → record_place (field_fault field at) ≡ at
+here field.LevelCount at = refl
+here (field.FanOut parties) at = refl
+here field.HandoffLimit at = refl
+here field.ScriptNumber at = refl
+here (field.Entry workers) at = refl
 
--- a refused field: the place is that of its number
-field_place : (k : RecordKind) (bad : ℕ → Bool) (f : RecordFault) (file : List ℕ) (at : ℕ) (g : RecordFault) →
-    record_place f ≡ at → field_at k bad f file at ≡ Err g → record_place g ≡ at
-field_place k bad f file at g here is =
-    elim (number_err k (number_at file at) (λ n. cond (bad n.0) (Err f) (Ok n)) g is) [
+field_place : (field : Field) (file : List ℕ) (at : ℕ) (g : RecordFault) → value_at field file at ≡ Err g →
+    record_place g ≡ at
+field_place field file at g is =
+    elim (number_err (field_kind field) (number_at file at)
+    (λ n. cond (field_refuses field n.0) (Err (field_fault field at)) (Ok n)) g is) [
       | inl p ↦ ap record_place p.2 ∙ groups_place at 5 at (drop at file) p.0 p.1
-      | inr p ↦ sym (ap record_place (refused_by (bad p.0.0) p.0 f g p.2)) ∙ here
+      | inr p ↦
+          let r = refused (field_refuses field p.0.0) (field_fault field at) g p.0 p.2 in
+          sym (ap record_place r.1) ∙ here field at
     ]
 
 no_algorithm : (n : ℕ) (f g : RecordFault) → algorithm_of n f ≡ Err g → f ≡ g
@@ -90,7 +99,7 @@ limit_place : (rank : ℕ) (file : List ℕ) (at : ℕ) (g : RecordFault) → li
 limit_place rank file at g is =
     elim (eqb_tells rank 0) [
       | inl t ↦ let wrong = simp t.0 at is in cc
-      | inr t ↦ field_place kind.Level bad_limit (fault.HandoffLimit at) file at g refl (simp t.0 at is)
+      | inr t ↦ field_place field.HandoffLimit file at g (simp t.0 at is)
     ]
 
 -- a place at `at` or behind it, and not past the file's end
@@ -106,7 +115,7 @@ level_lies rank parties file at g before is =
           let w = number_within file at _ (algorithm_ok file at a.0 a.1) in
           elim (bind_err (fan_out_at parties file a.0.1) _ g a.2) [
             | inl p ↦
-                let e = field_place kind.Level (bad_fan_out parties) (fault.FanOut a.0.1) file a.0.1 g refl p in
+                let e = field_place (field.FanOut parties) file a.0.1 g p in
                 (omega arith, omega arith)
             | inr f ↦
                 let v = number_within file a.0.1 f.0 (fan_out_ok parties file a.0.1 f.0 f.1).0 in
@@ -119,7 +128,7 @@ level_lies rank parties file at g before is =
 
 module _ (file : List ℕ) where
   script_number_place : (at : ℕ) (g : RecordFault) → script_number_at file at ≡ Err g → record_place g ≡ at
-  script_number_place at g is = field_place kind.Script bad_script_number (fault.ScriptNumber at) file at g refl is
+  script_number_place at g is = field_place field.ScriptNumber file at g is
 
   script_lies : (at : ℕ) (g : RecordFault) → at ≤ length file → script_at file at ≡ Err g →
       Lies file at (record_place g)
@@ -145,7 +154,7 @@ module _ (file : List ℕ) where
   entries_lie (suc count) workers at g before is =
       elim (bind_err (entry_at workers file at) _ g is) [
         | inl p ↦
-            let e = field_place kind.Schedule (bad_entry workers) (fault.Entry at) file at g refl p in
+            let e = field_place (field.Entry workers) file at g p in
             (omega arith, omega arith)
         | inr n ↦
             let w = number_within file at n.0 (entry_ok workers file at n.0 n.1).0 in
@@ -189,7 +198,7 @@ pub next_lies : (file : List ℕ) (at : ℕ) (from : Stage) (f : FileFault) → 
 next_lies file at stage.Levels f before is =
     let k = in_order_err (levels_step file at) f is in
     let p = record_err (levels_at file at) _ k.0 (λ a is. cc) k.1 in
-    let e = k.2 ∙ field_place kind.Levels bad_levels (fault.LevelCount at) file at k.0 refl p in
+    let e = k.2 ∙ field_place field.LevelCount file at k.0 p in
     (omega arith, omega arith)
 next_lies file at (stage.Level rank count parties) f before is =
     let k = in_order_err (level_step rank count parties file at) f is in

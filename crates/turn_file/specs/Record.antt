@@ -1,5 +1,6 @@
 -- What stands at a place of the file: the records, number by number.
-use Rattle.std.specs.Prelude.{ℕ, zero, suc, Bool, cond, List, Ok, Err, Result, ◌==◌}
+use Rattle.std.specs.Prelude.{ℕ, zero, suc, cond, List, Ok, Err, Result, ◌==◌}
+use Rattle.std.specs.Result.{result_map_both}
 use Rattle.turn_file.specs.declared.fault.NumberFault.{NumberFault}
 use Rattle.turn_file.specs.declared.fault.RecordFault.{RecordFault}
 use Rattle.turn_file.specs.declared.fault.RecordFault.TheVariants as fault
@@ -8,7 +9,6 @@ use Rattle.turn_file.specs.declared.fault.RecordKind.TheVariants as kind
 use Rattle.turn_file.specs.declared.field.Field.{Field}
 use Rattle.turn_file.specs.declared.field.Field.TheVariants as field
 use Rattle.turn_file.specs.declared.plan.Algorithm.{Algorithm}
-use Rattle.turn_file.specs.declared.plan.UnknownAlgorithm.{UnknownAlgorithm}
 use Rattle.turn_file.specs.declared.plan.Level.{Level}
 use Rattle.turn_file.specs.declared.plan.Script.{Script}
 use Rattle.turn_file.specs.Algorithm.{algorithm_from}
@@ -30,25 +30,19 @@ abbrev pub bind : {A B E : Type 0} → Result A E → (A → Result B E) → Res
 bind (Ok a) next = next a
 bind (Err f) next = Err f
 
--- a number of a record of this kind, which is refused if its value is bad
-abbrev pub field_at : RecordKind → (ℕ → Bool) → RecordFault → List ℕ → ℕ → Result (ℕ × ℕ) RecordFault
-field_at k bad f file at = bind (number_in k file at) (λ n. cond (bad n.0) (Err f) (Ok n))
-
 -- a number that only some values fit
 abbrev pub value_at : Field → List ℕ → ℕ → Result (ℕ × ℕ) RecordFault
-value_at field file at = field_at (field_kind field) (field_refuses field) (field_fault field at) file at
+value_at field file at =
+    bind (number_in (field_kind field) file at) (λ n.
+    cond (field_refuses field n.0) (Err (field_fault field at)) (Ok n))
 
 -- how many levels there are
 abbrev pub levels_at : List ℕ → ℕ → Result (ℕ × ℕ) RecordFault
 levels_at file at = value_at field.LevelCount file at
 
 -- the algorithm of a number, or this fault
-abbrev pub algorithm_or : RecordFault → Result Algorithm UnknownAlgorithm → Result Algorithm RecordFault
-algorithm_or f (Ok a) = Ok a
-algorithm_or f (Err unknown) = Err f
-
 abbrev pub algorithm_of : ℕ → RecordFault → Result Algorithm RecordFault
-algorithm_of n f = algorithm_or f (algorithm_from n)
+algorithm_of n f = result_map_both (λ a. a) (λ unknown. f) (algorithm_from n)
 
 abbrev pub algorithm_at : List ℕ → ℕ → Result (Algorithm × ℕ) RecordFault
 algorithm_at file at =

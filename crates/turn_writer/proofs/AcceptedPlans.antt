@@ -23,7 +23,7 @@ use Rattle.turn_writer.specs.Shape.{Shape}
 use Rattle.turn_writer.proofs.AcceptedRecords.{in_order_both, product, levels_reach, levels_come, workers_few, scripts_reach, scripts_come, entries_come}
 use Rattle.turn_writer.proofs.Parts.{sizes}
 use Rattle.turn_writer.proofs.Sizes.{field_fits}
-use Rattle.turn_writer.proofs.Refusals.{kept}
+use Rattle.turn_file.proofs.Refusals.{kept}
 
 -- what was judged first, and what came of it
 header_ok : (r : Result ℕ RecordFault) (next : ℕ → Result ℕ FileFault) (n : ℕ) → in_file_order r next ≡ Ok n →

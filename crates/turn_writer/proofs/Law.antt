@@ -19,7 +19,7 @@ use Rattle.turn_writer.proofs.Again.{records_again}
 use Rattle.turn_writer.proofs.Bytes.{spelling_bytes}
 use Rattle.turn_writer.proofs.RefusedPlans.{plan_stops, plan_too_long, plan_fault}
 use Rattle.turn_writer.proofs.AcceptedPlans.{plan_accepted}
-use Rattle.turn_writer.proofs.Refusals.{kept}
+use Rattle.turn_file.proofs.Refusals.{kept}
 
 -- what a reader says of records in order that are not too long: it accepts their spelling, and reads what they say
 reads_records : (items : List Item) → InOrder stage.Levels items stage.End →

@@ -8,7 +8,6 @@ pub mod Law
 pub mod Pages
 pub mod LevelSection
 pub mod Parts
-pub mod Refusals
 pub mod RefusedPlans
 pub mod RefusedRecords
 pub mod Rows

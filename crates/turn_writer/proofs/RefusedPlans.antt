@@ -22,7 +22,7 @@ use Rattle.turn_writer.proofs.Standing.{standing, count_stops, behind_count, lev
 use Rattle.turn_writer.proofs.Parts.{sizes}
 use Rattle.turn_writer.proofs.Stops.{Stopped}
 use Rattle.turn_writer.proofs.AcceptedPlans.{count_used, used_sizes}
-use Rattle.turn_writer.proofs.Refusals.{refused}
+use Rattle.turn_file.proofs.Refusals.{refused}
 use Rattle.std.proofs.lemmas.Bool.Decides.{nat_tests}
 
 every_take : {X : Type 0} (P : X → Type 0) (n : ℕ) (xs : List X) → AllByRecursion P xs → AllByRecursion P (take n xs)

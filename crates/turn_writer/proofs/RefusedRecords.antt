@@ -22,7 +22,7 @@ use Rattle.turn_writer.specs.Judgement.{past, past_field, past_limit, past_level
 use Rattle.turn_writer.specs.Records.{level_spelling, script_spelling}
 use Rattle.turn_writer.specs.Shape.{Word, LevelWords, ScriptWords}
 use Rattle.turn_writer.proofs.Sizes.{field_fits}
-use Rattle.turn_writer.proofs.Refusals.{refused}
+use Rattle.turn_file.proofs.Refusals.{refused}
 
 -- nothing comes of what was refused
 pub stop : {A B : Type 0} (next : A → Result B RecordFault) {r : Result A RecordFault} {f : RecordFault} → r ≡ Err f →
@@ -44,7 +44,7 @@ module _ (file : List ℕ) where
   field_read : (field : Field) (n at to next : ℕ) → Word n → Stands (spell n) file at to →
       past_field field n at ≡ Ok next → value_at field file at ≡ Ok (n, to)
   field_read field n at to next small s is =
-      field_is (field_kind field) (field_refuses field) (field_fault field at) file at (n, to)
+      field_is field file at (n, to)
       (spelled_number file at n to small s) (field_fits field n at next is).0
 
   limit_refused : (rank n at to : ℕ) (g : RecordFault) → Word n →

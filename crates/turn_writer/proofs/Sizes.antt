@@ -11,7 +11,7 @@ use Rattle.turn_file.specs.Algorithm.{algorithm_number}
 use Rattle.turn_file.specs.Field.{field_refuses, field_fault}
 use Rattle.turn_file.specs.Spelling.{spell_in, spell}
 use Rattle.turn_file.proofs.Fields.{bind_ok, fan_out_fits}
-use Rattle.turn_writer.proofs.Refusals.{kept}
+use Rattle.turn_file.proofs.Refusals.{kept}
 use Rattle.turn_writer.specs.Judgement.{past, past_field, past_limit, past_level, past_levels, past_script, past_scripts, past_header}
 
 groups_few : (left v : ℕ) → length (spell_in left v) ≤ left

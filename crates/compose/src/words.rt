@@ -95,7 +95,8 @@ impl<'a> Words<'a> {
     }
 
     pub(crate) fn expect_end(&self) -> Result<(), Unreadable>
-        ensures { IsOk result ↔ All IsBlank self.now.rest.now }
+        ensures ends { IsOk result ↔ All IsBlank self.now.rest.now }
+        ensures lacks { IfErr result (λ e. (e.line ≡ self.now.line) × (e.expected ≡ Expected.EndOfLine)) }
     {
         self.expect_that(self.is_empty(), Expected::EndOfLine)
     }

@@ -33,7 +33,11 @@ impl<'a> Iterator for Lines<'a> {
     // `split_inclusive` goes over the text as it was at the call; `self.rest` is kept at what is left behind the line.
     fn next(&mut self) -> Option<Words<'a>> {
         for line in self.rest.split_inclusive(|byte| *byte == b'\n') {
-            let words = Words::new(self.number, line);
+            let text = match line {
+                [text @ .., b'\n'] => text,
+                _ => line,
+            };
+            let words = Words::new(self.number, text);
             self.rest = &self.rest[line.len()..];
             self.number = self.number.saturating_add(1);
             if !words.is_empty() {

@@ -22,7 +22,9 @@ fn run(rt: &HostRuntime) -> Result<(), Failure> {
     rt.stdin().read_to_end(&mut text)?;
     let composition = Composition::read(rt.alloc(), &text)?;
     let plan = composition.plan();
-    let mut file = vec![in rt.alloc(); 0; file_length(&plan)?]?;
+    // The file takes the place of its text, which is never shorter, so it needs no memory of its own.
+    let mut file = text;
+    file.resize(file_length(&plan)?, 0)?;
     write_plan(&plan, &mut file)?;
     rt.stdout().write_all(&file)?;
     Ok(())

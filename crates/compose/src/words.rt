@@ -7,14 +7,14 @@ ghost use Rattle.compose.specs.Blank.{IsBlank};
 use crate::number::parse_number;
 use crate::unreadable::{Expected, Unreadable};
 
-/// What is left of a line, which has this number in the text.
+/// What is left of a line, which has this number in the text. At first it is empty, or begins with a word.
 #[derive(Drop)]
 pub(crate) struct Words<'a> {
     line: usize,
     rest: &'a [u8],
 }
 
-// A line keeps the byte that ends it, which is a blank like the others.
+// The byte that ends a line is a blank too, though `Lines` leaves none in a line.
 fn is_blank(byte: &u8) -> bool
     ensures { IsTrue result ↔ IsBlank byte.now }
 {
@@ -35,6 +35,7 @@ fn split_before<P: Fn(&u8) -> bool>(text: &[u8], passes: P) -> (&[u8], &[u8])
 
 impl<'a> Words<'a> {
     pub(crate) fn new(line: usize, text: &'a [u8]) -> Words<'a> {
+        let (_blanks, text) = split_before(text, |byte| !is_blank(byte));
         let (rest, _comment) = split_before(text, |byte| *byte == b'#');
         Words { line, rest }
     }

@@ -41,8 +41,11 @@ pub fn read_number(file: &[u8], at: usize) -> Result<(u32, usize), NumberFault>
 {
     let mut value = 0;
     let mut weight = 1;
-    for (index, &byte) in bytes_from(file, at).iter().enumerate() {
-        // The fifth group ends the number, so the index is at most 4.
+    // A number has at most five groups. With a fixed count of turns the loop can be unrolled.
+    for index in 0..5 {
+        let &[byte, ..] = bytes_from(file, at + index) else {
+            return Err(NumberFault::Ends { place: at });
+        };
         match group_of(at, byte, 4 - index)? {
             Group::Last => return Ok((value + u32::from(byte) * weight, at + index + 1)),
             Group::More => {
@@ -51,7 +54,8 @@ pub fn read_number(file: &[u8], at: usize) -> Result<(u32, usize), NumberFault>
             }
         }
     }
-    Err(NumberFault::Ends { place: at })
+    // Not reached: nothing may come behind a fifth group.
+    Err(NumberFault::TooLarge { place: at })
 }
 
 /// Every value up to 4,294,967,295 has exactly one accepted spelling, and what is accepted at a place is that spelling.

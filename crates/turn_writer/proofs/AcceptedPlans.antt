@@ -26,7 +26,7 @@ use Rattle.turn_writer.proofs.Sizes.{field_fits}
 use Rattle.turn_file.proofs.Refusals.{kept}
 
 -- what was judged first, and what came of it
-header_ok : (r : Result ℕ RecordFault) (next : ℕ → Result ℕ FileFault) (n : ℕ) → in_file_order r next ≡ Ok n →
+pub header_ok : (r : Result ℕ RecordFault) (next : ℕ → Result ℕ FileFault) (n : ℕ) → in_file_order r next ≡ Ok n →
     (a : ℕ) × (r ≡ Ok a) × (next a ≡ Ok n)
 header_ok (Ok a) next n is = (a, refl, is)
 header_ok (Err f) next n is = cc
@@ -49,6 +49,7 @@ pub record Accepted (count : ℕ) (ls : List Level) (ss : List Script) (es : Lis
   pub ordered : InOrder stage.Levels (records_from count ls ss es) stage.End
   pub long : n ≡ length (spelling (records_from count ls ss es))
   pub short : n ≤ longest_file
+  pub few : length es ≤ longest_file
   pub plain : IsPlain es
 
 -- a schedule that is not refused
@@ -102,6 +103,7 @@ parts_accepted count (l ∷ ls) (s ∷ ss) es a b c n all_levels all_scripts fir
         sizes count (l ∷ ls) (s ∷ ss) es,
       );
       short = entries.2;
+      few = entries.3;
       plain = record { own = plain; counted = omega (arith, entries.3) };
     }
 

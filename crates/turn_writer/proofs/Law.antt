@@ -22,7 +22,7 @@ use Rattle.turn_writer.proofs.AcceptedPlans.{plan_accepted}
 use Rattle.turn_file.proofs.Refusals.{kept}
 
 -- what a reader says of records in order that are not too long: it accepts their spelling, and reads what they say
-reads_records : (items : List Item) → InOrder stage.Levels items stage.End →
+pub reads_records : (items : List Item) → InOrder stage.Levels items stage.End →
     length (spelling items) ≤ longest_file →
     (q : PlanNumbers) × (plan_of (spelling items) ≡ Ok q) × (records_of q ≡ items)
 reads_records items order short = by_answer (plan_of (spelling items)) refl
@@ -37,7 +37,7 @@ reads_records items order short = by_answer (plan_of (spelling items)) refl
         absurd ((read_refused (spelling items) (spelling_bytes items) f short is).none items order refl)
 
 -- what a file that a reader accepts says of the plan's records
-read_records : (file : List ℕ) (q : PlanNumbers) → Bytes file → plan_of file ≡ Ok q →
+pub read_records : (file : List ℕ) (q : PlanNumbers) → Bytes file → plan_of file ≡ Ok q →
     (length file ≤ longest_file) × InOrder stage.Levels (records_of q) stage.End × (file ≡ plan_spelling q)
 read_records file q each is =
     elim (cases_lt longest_file (length file)) [
@@ -100,7 +100,7 @@ module _ (p : PlanNumbers) (known : Known p) where
             | inr e ↦ omega (arith, short, ap length spelled, plan_too_long p known.shape (is ∙ ap Err e))
           ])
 
-  writes : (space : ℕ) → Writes p space (written_length p space)
+  pub writes : (space : ℕ) → Writes p space (written_length p space)
   writes space = record {
     accepted = λ n is.
         let k = spaced_ok space (file_length p) n is in

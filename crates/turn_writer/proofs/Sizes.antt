@@ -19,7 +19,7 @@ groups_few zero v = omega arith
 groups_few (suc left) v = grind (arith, nat_tests, groups_few left (v / 128))
 
 -- a number takes at most five bytes
-spell_few : (v : ℕ) → length (spell v) ≤ 5
+pub spell_few : (v : ℕ) → length (spell v) ≤ 5
 spell_few v = groups_few 5 v
 
 -- a number that was not refused

@@ -50,7 +50,7 @@ impl From<io::Error> for Failure {
     }
 }
 
-// No memory for the file.
+// No memory for bytes: what `resize` may answer.
 impl From<AllocError> for Failure {
     ghost from_gives = { λ _ f. IsOutOfMemory f };
 

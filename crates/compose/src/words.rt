@@ -14,11 +14,10 @@ pub(crate) struct Words<'a> {
     rest: &'a [u8],
 }
 
-// The byte that ends a line is a blank too, though `Lines` leaves none in a line.
 fn is_blank(byte: &u8) -> bool
     ensures { IsTrue result ↔ IsBlank byte.now }
 {
-    matches!(byte, b' ' | b'\t' | b'\r' | b'\n')
+    matches!(byte, b' ' | b'\t' | b'\r')
 }
 
 // The bytes before the first that passes, and the others.
@@ -34,7 +33,10 @@ fn split_before<P: Fn(&u8) -> bool>(text: &[u8], passes: P) -> (&[u8], &[u8])
 }
 
 impl<'a> Words<'a> {
-    pub(crate) fn new(line: usize, text: &'a [u8]) -> Words<'a> {
+    pub(crate) fn new(line: usize, text: &'a [u8]) -> Words<'a>
+        ensures line { result.line ≡ line }
+        ensures begins { let rest = result.rest.now in 0 < length rest → ¬ IsBlank (slice_index rest 0) }
+    {
         let (_blanks, text) = split_before(text, |byte| !is_blank(byte));
         let (rest, _comment) = split_before(text, |byte| *byte == b'#');
         Words { line, rest }

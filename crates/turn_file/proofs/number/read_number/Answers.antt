@@ -51,7 +51,3 @@ loop-index-preserved c =
       so_far = rw (c.from-in-More.ensures, next.1) (so_far_more c.loop-index.invariant.so_far byte next.0 is);
       within = λ some. omega (arith, length-drop c.args.at c.args.file.now, next.0);
     }
-
--- nothing may come behind a fifth group, so the loop returns before it runs out
-pub returns : goal.returns
-returns c = absurd (omega (arith, c.loop-index.invariant.so_far))
